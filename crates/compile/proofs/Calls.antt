@@ -1,0 +1,85 @@
+-- The calls where their tests pass: what the tests give, and what each call then gives and leaves. The tests are true
+-- one after the other; what reading gives is within the limits of texts.
+use mathlib.Core.Path.{_≡_, _∙_, ap}
+use mathlib.Core.Bool.{true}
+use Prim.Native.Nat.{ℕ, _*_, _≤_}
+use native.Mathlib.Omega.{arith}
+use mathlib.Core.List.{List}
+use lib.ListN.{length, take, drop, length-map}
+use lib.Seq.{take-at}
+use borrow.Author.Tests.{eq-eqb, le-leb}
+use Rattle.base.specs.Answers.{gives, and-then, settle}
+use Rattle.text.specs.Syntax.{Command}
+use Rattle.text.specs.Encoding.{Bytes, Valid}
+use Rattle.text.specs.Reading.{read-text}
+use Rattle.text.specs.Sizes.{records, cells, sizes}
+use Rattle.text.proofs.Accepted.{accepted}
+use Rattle.text.proofs.Sizes.{short}
+use Rattle.record.specs.Records.{MachineCode}
+use Rattle.record.specs.Bytes.{assembly-kind, machine-kind, code-bytes, over, whole, records-of}
+use Rattle.record.proofs.Bytes.{five-bytes}
+use Rattle.compile.specs.Calls.{assemble-tests, assemble, compile-tests, machine-bytes, Compiled, compile}
+use Rattle.compile.specs.Calls.{go-back-tests, go-back}
+use Rattle.compile.specs.Compilation.{ccomp}
+use Rattle.compile.specs.Table.{to-m-prog, table, named-in, is-table, to-assembly}
+use Rattle.compile.proofs.Sizes.{record-count}
+
+-- A text that is read is a valid command of at most 4,096 records.
+pub read-fits : (text : List ℕ) → Bytes text → {c : Command} → read-text text ≡ gives c
+    → Valid c × (records c ≤ 4096)
+read-fits text bytes {c} e =
+    let within = accepted text bytes c .0 e .0 in
+    (within .valid, omega (arith, short c, within .short))
+
+-- ---- assemble
+
+pub assemble-gives : (text out : List ℕ) {c : Command} → read-text text ≡ gives c → 5 * records c ≤ length out
+    → assemble-tests text out ≡ gives c
+unfolding assemble-tests and-then
+assemble-gives text out {c} e room = simp (e, le-leb (5 * records c) (length out) room)
+
+pub assembled : (text out : List ℕ) {c : Command} → read-text text ≡ gives c → 5 * records c ≤ length out
+    → assemble text out ≡ (gives (sizes c), over (code-bytes assembly-kind (ccomp c)) out)
+unfolding assemble settle
+assembled text out e room = simp (assemble-gives text out e room)
+
+-- ---- compile
+
+pub compile-gives : (text code t : List ℕ) {c : Command} → read-text text ≡ gives c → length t ≡ 64
+    → 5 * records c ≤ length code → compile-tests text code t ≡ gives c
+unfolding compile-tests and-then
+compile-gives text code t {c} e long room =
+    simp (e, eq-eqb (length t) 64 long, le-leb (5 * records c) (length code) room)
+
+pub compiled : (text : List ℕ) (lent : Compiled) {c : Command} → read-text text ≡ gives c → length (lent .table) ≡ 64
+    → 5 * records c ≤ length (lent .code)
+    → compile text lent
+    ≡ (gives (sizes c), record { code = over (machine-bytes c) (lent .code); table = table (ccomp c) })
+unfolding compile settle
+compiled text lent e long room = simp (compile-gives text (lent .code) (lent .table) e long room)
+
+-- The machine code is as many records as reading says, of five bytes,
+pub machine-count : (c : Command) → length (to-m-prog (ccomp c)) ≡ records c
+machine-count c = length-map (ccomp c) _ ∙ record-count c
+
+pub machine-length : (c : Command) → length (machine-bytes c) ≡ 5 * records c
+machine-length c =
+    five-bytes _ (machine-kind (cells c)) (to-m-prog (ccomp c)) ∙ ap (λ n. 5 * n) (machine-count c)
+
+-- and what is written over a buffer stands at its start.
+pub taken-over : (new old : List ℕ) (n : ℕ) → length new ≡ n → take n (over new old) ≡ new
+taken-over new old n e = take-at new (drop (length new) old) n e
+
+-- ---- go_back
+
+pub go-back-gives : (code t out : List ℕ) {P : MachineCode} → whole code ≡ true → length t ≡ 64 → is-table t ≡ true
+    → records-of (machine-kind (named-in t)) code ≡ gives P → 5 * length P ≤ length out
+    → go-back-tests code t out ≡ gives P
+unfolding go-back-tests and-then
+go-back-gives code t out {P} w long passes e room =
+    simp (w, eq-eqb (length t) 64 long, passes, e, le-leb (5 * length P) (length out) room)
+
+pub gone-back : (code t out : List ℕ) {P : MachineCode} → go-back-tests code t out ≡ gives P
+    → go-back code t out ≡ (gives (length P), over (code-bytes assembly-kind (to-assembly t P)) out)
+unfolding go-back settle
+gone-back code t out e = simp e

@@ -1,0 +1,145 @@
+-- Addresses: they are at most the number of variables, no two variables share one, and exactly the variables that
+-- records name have one; the table holds them. By going through the list of variables.
+use mathlib.Core.Path.{_≡_, refl, sym, _∙_, ap}
+use Prim.Native.Nat.{ℕ, zero, suc, _+_, _≤_, _<_}
+use native.Mathlib.Nat.{add-zero, add-suc, suc-add, zero-add}
+use native.Mathlib.Decide.{decLt}
+use native.Mathlib.Omega.{arith}
+use mathlib.Core.Bool.{Bool, true, false, not, _||_, or-true}
+use mathlib.Core.List.{List, [], _∷_}
+use mathlib.Core.Option.{Option, none, some, Option·some-injective}
+use lib.Dec.{eqb, eqb·suc-zero}
+use lib.ListN.{length, getD, getElem?, List·getD-eq-default}
+use borrow.Author.Tests.{eqb-true, eqb-false, eq-eqb}
+use Rattle.base.specs.Acts.{if_then_else_}
+use Rattle.record.specs.Records.{Record, AssemblyCode, named}
+use Rattle.record.specs.declared.Variable.{Variable}
+use Rattle.compile.specs.Table.{member, once, vars, addr-of, entries, table}
+
+-- ---- A variable's address
+
+-- An address is at most the number of variables.
+pub address-most : (xs : List ℕ) (v : ℕ) → addr-of xs v ≤ length xs
+unfolding addr-of
+address-most [] v = omega arith
+address-most (x ∷ xs) v = by (eqb x v) (address-most xs v)
+  where
+    by : (b : Bool) → addr-of xs v ≤ length xs → (if b then suc (length xs) else addr-of xs v) ≤ suc (length xs)
+    by true h = omega arith
+    by false h = omega arith
+
+-- No two variables share an address.
+pub address-distinct : (xs : List ℕ) (v w : ℕ) → 0 < addr-of xs v → addr-of xs v ≡ addr-of xs w → v ≡ w
+unfolding addr-of
+address-distinct [] v w l e = absurd (omega arith)
+address-distinct (x ∷ xs) v w l e = by (eqb x v) (eqb x w) refl refl (address-distinct xs v w) l e
+  where
+    by : (b c : Bool) → eqb x v ≡ b → eqb x w ≡ c → (0 < addr-of xs v → addr-of xs v ≡ addr-of xs w → v ≡ w)
+        → 0 < (if b then suc (length xs) else addr-of xs v)
+        → (if b then suc (length xs) else addr-of xs v) ≡ (if c then suc (length xs) else addr-of xs w) → v ≡ w
+    by true true p q i l e = sym (eqb-true x v p) ∙ eqb-true x w q
+    by true false p q i l e = absurd (omega (arith, address-most xs w))
+    by false true p q i l e = absurd (omega (arith, address-most xs v))
+    by false false p q i l e = i l e
+
+-- An address is 0 where the variable is not among them.
+pub address-none : (xs : List ℕ) (v : ℕ) → eqb (addr-of xs v) 0 ≡ not (member v xs)
+unfolding addr-of member
+address-none [] v = refl
+address-none (x ∷ xs) v = by (eqb x v) (address-none xs v)
+  where
+    by : (b : Bool) → eqb (addr-of xs v) 0 ≡ not (member v xs)
+        → eqb (if b then suc (length xs) else addr-of xs v) 0 ≡ not (if b then true else member v xs)
+    by true h = eqb·suc-zero (length xs)
+    by false h = h
+
+-- ---- The table
+
+-- The v-th entry from u on is the address of u + v.
+entries-at : (xs : List ℕ) (u k v : ℕ) → v < k → getD (entries xs u k) v 0 ≡ addr-of xs (u + v)
+unfolding entries
+entries-at xs u zero v l = absurd (omega arith)
+entries-at xs u (suc k) zero l = ap (addr-of xs) (sym (add-zero u))
+entries-at xs u (suc k) (suc v) l =
+    entries-at xs (suc u) k v (omega arith) ∙ ap (addr-of xs) (suc-add u v ∙ sym (add-suc u v))
+
+pub length-entries : (xs : List ℕ) (u k : ℕ) → length (entries xs u k) ≡ k
+unfolding entries
+length-entries xs u zero = refl
+length-entries xs u (suc k) = ap suc (length-entries xs (suc u) k)
+
+module _ (P : AssemblyCode) where
+  -- A variable's entry is its address,
+  pub table-at : (v : ℕ) → v < 64 → getD (table P) v 0 ≡ addr-of (vars P) v
+  table-at v l = entries-at (vars P) 0 64 v l ∙ ap (addr-of (vars P)) (zero-add v)
+
+  -- and past the 64 variables there is none.
+  table-past : (v : ℕ) → 64 ≤ v → getD (table P) v 0 ≡ 0
+  table-past v l = List·getD-eq-default (table P) 0 (omega (arith, length-entries (vars P) 0 64))
+
+  -- Entries are at most the number of variables.
+  pub table-small : (v : ℕ) → getD (table P) v 0 ≤ length (vars P)
+  table-small v =
+      elim (decLt v 64) [
+        | yes l ↦ omega (arith, table-at v l, address-most (vars P) v)
+        | no l ↦ omega (arith, table-past v (omega arith))
+      ]
+
+-- Where entries are not 0, they are distinct
+abbrev pub Distinct : List ℕ → Type 0
+Distinct t = (v w : ℕ) → 0 < getD t v 0 → getD t v 0 ≡ getD t w 0 → v ≡ w
+
+pub table-distinct : (P : AssemblyCode) → Distinct (table P)
+table-distinct P v w l e =
+    address-distinct (vars P) v w
+    (omega (arith, table-at P v (inside v l)))
+    (sym (table-at P v (inside v l)) ∙ e ∙ table-at P w (inside w (omega arith)))
+  where
+    inside : (u : ℕ) → 0 < getD (table P) u 0 → u < 64
+    inside u h = elim (decLt u 64) [ yes l ↦ l | no l ↦ absurd (omega (arith, table-past P u (omega arith))) ]
+
+-- ---- The variables that records name
+
+-- Is w what a record names?
+abbrev pub is-named : ℕ → Option Variable → Bool
+is-named w none = false
+is-named w (some v) = eqb (v .0) w
+
+-- Among the variables of records are those that the first names and those of the others.
+pub member-once : (w : ℕ) (o : Option Variable) (xs : List ℕ) → member w (once o xs) ≡ (is-named w o || member w xs)
+unfolding member once
+member-once w none xs = refl
+member-once w (some v) xs = by (member (v .0) xs) refl
+  where
+    first : (b : Bool) → (if b then true else member w xs) ≡ (b || member w xs)
+    first true = refl
+    first false = refl
+
+    among : (b : Bool) → eqb (v .0) w ≡ b → member (v .0) xs ≡ true → member w xs ≡ (b || member w xs)
+    among true e m = ap (λ u. member u xs) (sym (eqb-true (v .0) w e)) ∙ m
+    among false e m = refl
+
+    by : (b : Bool) → member (v .0) xs ≡ b → member w (if b then xs else v .0 ∷ xs) ≡ (eqb (v .0) w || member w xs)
+    by true m = among (eqb (v .0) w) refl m
+    by false m = first (eqb (v .0) w)
+
+-- What is none is not some.
+pub none-some : {A B : Type 0} (a : A) → none ≡ some a → B
+none-some a e = let z : _≡_ {A = ℕ} 0 1 = cc in absurd (omega arith)
+
+-- What a record names is among the variables,
+named-member : (P : AssemblyCode) (p : ℕ) (v : Variable) (r : Record Variable) → getElem? P p ≡ some r
+    → named r ≡ some v → member (v .0) (vars P) ≡ true
+unfolding vars
+named-member [] p v r e f = none-some r e
+named-member (q ∷ P) zero v r e f =
+    let same : named q ≡ some v = ap {B = Option Variable} named (Option·some-injective q r e) ∙ f in
+    simp (member-once, same, eq-eqb (v .0) (v .0) refl)
+named-member (q ∷ P) (suc p) v r e f = simp (member-once, named-member P p v r e f, or-true)
+
+-- and so has an address.
+pub named-address : (P : AssemblyCode) (p : ℕ) (v : Variable) (r : Record Variable) → getElem? P p ≡ some r
+    → named r ≡ some v → 0 < addr-of (vars P) (v .0)
+named-address P p v r e f =
+    let a = addr-of (vars P) (v .0) in
+    omega (arith, eqb-false a 0 (address-none (vars P) (v .0) ∙ ap not (named-member P p v r e f)))

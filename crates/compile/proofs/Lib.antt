@@ -1,0 +1,10 @@
+pub mod Cases
+pub mod Sizes
+pub mod Entries
+pub mod Naming
+pub mod Counting
+pub mod Mentions
+pub mod Tables
+pub mod Codes
+pub mod Calls
+pub mod GoingBack

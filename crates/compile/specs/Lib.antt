@@ -1,0 +1,5 @@
+pub mod Compilation
+pub mod Table
+pub mod Calls
+pub mod Claims
+pub mod Cases

@@ -1,0 +1,70 @@
+-- What is claimed of runs, on any memory, of any code and under any rule for sums. A run goes on where it was spent; its
+-- count is the number of its steps; it stays within its code and its stack. The proof of the same spelling stands in
+-- proofs/.
+use mathlib.Core.Path.{_≡_}
+use Prim.Native.Nat.{ℕ, suc, _+_, _≤_, _<_}
+use mathlib.Core.List.{List}
+use mathlib.Core.Option.{none, some}
+use lib.IntN.{ℤ}
+use lib.ListN.{length, getElem?}
+use Rattle.base.specs.Acts.{ok, ended}
+use Rattle.word.specs.Sums.{SumRule}
+use Rattle.record.specs.Records.{Record}
+use Rattle.base.specs.Ends.{End, fault, Result, result}
+use Rattle.machine.specs.Machine.{Memory, Machine, fresh, act, run}
+
+-- ---- Runs in two parts
+
+-- A rule that looks at the ticks left, in the first part of a run whose second part has b ticks
+abbrev pub ahead : ℕ → SumRule → SumRule
+ahead b sum = λ n x y. sum (n + b) x y
+
+module _ {M Name : Type 0} (sum : SumRule) (D : ℕ) (o : Memory M Name) (code : List (Record Name)) where
+  -- a result gone on with b ticks more: run on where the ticks were spent
+  unfoldable pub resume : ℕ → End → ℕ → Machine M → Result (Machine M)
+  resume b End.done n s = result End.done (n + b) s
+  resume b End.spent n s = run sum D o code b s
+  resume b (fault e) n s = result (fault e) (n + b) s
+
+  -- A run with a + b ticks is a run with a ticks, gone on with b more.
+  abbrev pub Split : Type 0
+  Split = (a b : ℕ) (s : Machine M) → let r = run (ahead b sum) D o code a s in
+      run sum D o code (a + b) s ≡ resume b (r .end) (r .left) (r .leaves)
+
+-- ---- Runs as steps
+
+module _ {M Name : Type 0} (sum : SumRule) (D : ℕ) (o : Memory M Name) (code : List (Record Name)) where
+  -- `Walk n n′ s s′`: steps lead from s with n ticks left to s′ with n′ left, one tick a step
+  pub data Walk : ℕ → ℕ → Machine M → Machine M → Type 0 where
+    stay : {n : ℕ} {s : Machine M} → Walk n n s s
+    step : {n n′ : ℕ} {s s′ s″ : Machine M} (r : Record Name) → getElem? code (s .position) ≡ some r
+        → act (sum n) D o (length code) r s ≡ ok tt s′ → Walk n n′ s′ s″ → Walk (suc n) n′ s s″
+
+  -- what a result with n′ ticks left in the machine s′ says of the steps made
+  abbrev pub Made : ℕ → Machine M → End → ℕ → Machine M → Type 0
+  Made n s End.done n′ s′ = Walk n n′ s s′ × (getElem? code (s′ .position) ≡ none)
+  Made n s End.spent n′ s′ = Walk n n′ s s′ × (n′ ≡ 0) × (r : Record Name) × (getElem? code (s′ .position) ≡ some r)
+  Made n s (fault e) n′ s′ = Walk n (suc n′) s s′
+      × (r : Record Name) × (getElem? code (s′ .position) ≡ some r)
+      × (act (sum n′) D o (length code) r s′ ≡ ended e)
+
+  -- A run's count is the number of steps that it made, the record that brought a fault counted too.
+  abbrev pub Counted : Type 0
+  Counted = (n : ℕ) (s : Machine M) → let r = run sum D o code n s in Made n s (r .end) (r .left) (r .leaves)
+
+  -- The machine that a run leaves, at any budget and whatever the code, stands at most at its end position and has
+  -- at most D values on its stack.
+  abbrev pub Inside : Type 0
+  Inside = (n : ℕ) (m : M)
+      → let s = run sum D o code n (fresh m) .leaves in (s .position ≤ length code) × (s .size ≤ D)
+
+-- ---- What a run keeps of its memory
+
+-- a property of memories that saving and poking keep
+pub record Keeps {M Name : Type 0} (D : ℕ) (o : Memory M Name) (Q : M → Type 0) : Type 0 where
+  pub saved : (m : M) (x : Name) (z : ℤ) → Q m → Q (o .save m x z)
+  pub poked : (m : M) (i : ℕ) (z : ℤ) → i < D → Q m → Q (o .poke m i z)
+
+-- A run keeps it too.
+abbrev pub Kept : {M Name : Type 0} → SumRule → (D : ℕ) → Memory M Name → List (Record Name) → (M → Type 0) → Type 0
+Kept {M = M} sum D o code Q = (n : ℕ) (m : M) → Q m → Q (run sum D o code n (fresh m) .leaves .memory)

@@ -1,0 +1,173 @@
+-- Demand 3 (Demand3: Demand3, Fitted, AssemblyFitted): the four calls come to the machine's run (Rows), which has the
+-- source rules' result (Memories); the customer's wording follows from the equality.
+use mathlib.Core.Path.{_≡_, refl, sym, _∙_, ap}
+use mathlib.Core.Logic.{_⊎_, inl, inr, _↔_}
+use Prim.Native.Nat.{ℕ, _+_, _*_, _-_, _≤_}
+use native.Mathlib.Omega.{arith}
+use mathlib.Core.List.{List}
+use lib.IntN.{ℤ}
+use lib.ListN.{length}
+use borrow.Author.Tests.{eq-eqb, le-leb}
+use Rattle.base.specs.Acts.{ok, ended}
+use Rattle.base.specs.Answers.{Answer, gives, and-then, settle}
+use Rattle.base.specs.Ends.{Fault, End, fault, Result, Ran, report}
+use Rattle.base.proofs.Answers.{gives-one}
+use Rattle.word.specs.Sums.{SumRule, sum32}
+use Rattle.text.specs.Syntax.{Command}
+use Rattle.text.specs.Reading.{read-text}
+use Rattle.text.specs.Encoding.{Bytes, Within}
+use Rattle.text.specs.Sizes.{depth, cells}
+use Rattle.text.proofs.Accepted.{accepted}
+use Rattle.text.proofs.Sizes.{short, shallow}
+use Rattle.source.specs.Rules.{Early, Store, Outcomes, state, exec, end-of, result-of, run-rules}
+use Rattle.source.specs.Calls.{run-source}
+use Rattle.source.proofs.Calls.{source-runs}
+use Rattle.record.specs.Bytes.{assembly-kind, code-bytes}
+use Rattle.record.proofs.Written.{whole-written, written}
+use Rattle.machine.specs.Machine.{Machine, fresh, run}
+use Rattle.machine.specs.Memories.{Assembly, assembly, cells as machine-cells}
+use Rattle.machine.specs.Calls.{machine-run, assembly-tests, assembly-run, run-assembly}
+use Rattle.machine.proofs.Bounds.{inside}
+use Rattle.compile.specs.Compilation.{ccomp}
+use Rattle.compile.specs.Table.{to-m-prog, table}
+use Rattle.compile.specs.Calls.{Compiled}
+use Rattle.compile.proofs.Sizes.{record-count}
+use Rattle.compile.proofs.Codes.{codes}
+use Rattle.pod.specs.Loading.{loaded}
+use Rattle.pod.specs.Calls.{four-calls}
+use Rattle.pod.specs.Simulation.{seen}
+use Rattle.pod.specs.Demand3.{Ready, MachineEnds, RulesEnd, Alike, Demand3, Fitted, AssemblyFitted}
+use Rattle.pod.proofs.Memories.{assembled, translated}
+use Rattle.pod.proofs.Counts.{ticked}
+use Rattle.pod.proofs.Rows.{in-a-row}
+
+-- ---- The equality
+
+module _ (text : List ℕ) (bytes : Bytes text) (c : Command) (read : read-text text ≡ gives c) (lent : Compiled)
+    (memory : List ℤ) (store : Store) (ready : Ready c lent memory store) (budget : ℕ) where
+  abbrev rules : Result Store
+  rules = run-rules sum32 c budget store
+
+  within : Within c
+  within = accepted text bytes c .0 read .0
+
+  machine-same : four-calls text lent memory store budget ≡ gives (report budget rules, rules .leaves)
+  machine-same =
+      in-a-row text c read within lent memory store ready budget
+      ∙ ap (λ (r : Result Store). gives (report budget r, r .leaves))
+      (translated sum32 c (within .valid) store (ready .store-cells) budget)
+
+  rules-same : run-source text store budget ≡ (gives (report budget rules), rules .leaves)
+  rules-same = source-runs text c store budget read (ready .store-cells)
+
+pub fitted : Fitted
+fitted text bytes c read lent memory store ready budget =
+    let r = run-rules sum32 c budget store in (
+      report budget r,
+      r .leaves,
+      machine-same text bytes c read lent memory store ready budget,
+      rules-same text bytes c read lent memory store ready budget,
+    )
+
+-- ---- In the customer's words
+
+-- the two sides tell the same, once both are known
+alike : (text : List ℕ) (lent : Compiled) (memory : List ℤ) (store : Store) (budget : ℕ) (ran : Ran) (u : Store)
+    → four-calls text lent memory store budget ≡ gives (ran, u) → run-source text store budget ≡ (gives ran, u)
+    → (e : End) (k : ℕ) (t : Store)
+    → MachineEnds text lent memory store budget e k t ↔ RulesEnd text store budget e k t
+alike text lent memory store budget ran u m r e k t = (to, back)
+  where
+    told : Ran
+    told = record { end = e; count = k }
+
+    to : MachineEnds text lent memory store budget e k t → RulesEnd text store budget e k t
+    to h = r ∙ ap (λ (x : Ran × Store). (gives (x .0), x .1)) (gives-one (ran, u) (told, t) (sym m ∙ h))
+
+    back : RulesEnd text store budget e k t → MachineEnds text lent memory store budget e k t
+    back h =
+        let same : _≡_ {A = Answer Ran × Store} (gives ran, u) (gives told, t) = sym r ∙ h in
+        let first : ran ≡ told = gives-one ran told (ap (λ (x : Answer Ran × Store). x .0) same) in
+        let second : u ≡ t = ap (λ (x : Answer Ran × Store). x .1) same in
+        m ∙ (λ i. gives (first i, second i))
+
+-- the three ends of a run of the source rules, by its outcome
+ends : (text : List ℕ) (lent : Compiled) (memory : List ℤ) (store : Store) (budget : ℕ) (x : Outcomes (Unit {0}))
+    → let r = result-of x in four-calls text lent memory store budget ≡ gives (report budget r, r .leaves)
+    → run-source text store budget ≡ (gives (report budget r), r .leaves)
+    → (r .end ≡ End.spent → r .left ≡ 0)
+    → ((k : ℕ) × (t : Store) × (k ≤ budget) × MachineEnds text lent memory store budget End.done k t)
+    ⊎ ((k : ℕ) × (t : Store) × (k ≤ budget)
+    × MachineEnds text lent memory store budget (fault Fault.out-of-range) k t)
+    ⊎ ((t : Store) × MachineEnds text lent memory store budget End.spent budget t
+    × RulesEnd text store budget End.spent budget t)
+unfolding result-of end-of
+ends text lent memory store budget (ok a s) m r z = inl (budget - s .left, s .store, omega arith, m)
+ends text lent memory store budget (ended (Early.out-of-range, s)) m r z =
+    inr (inl (budget - s .left, s .store, omega arith, m))
+ends text lent memory store budget (ended (Early.spent, s)) m r z =
+    let whole : budget - s .left ≡ budget = omega (arith, z refl) in
+    inr (inr (
+      s .store,
+      m ∙ ap (λ k. gives (record { end = End.spent; count = k }, s .store)) whole,
+      r ∙ ap (λ k. (gives (record { end = End.spent; count = k }), s .store)) whole,
+    ))
+
+-- document 01's rule for sums does not look at the ticks left
+steady32 : (n n′ : ℕ) (x y : ℤ) → sum32 n x y ≡ sum32 n′ x y
+unfolding sum32
+steady32 n n′ x y = refl
+
+pub demand3 : Demand3
+demand3 text bytes c read lent memory store ready budget =
+    let r = run-rules sum32 c budget store in
+    let m = machine-same text bytes c read lent memory store ready budget in
+    let s = rules-same text bytes c read lent memory store ready budget in
+    let D = depth c in
+    record {
+      done-alike = alike text lent memory store budget (report budget r) (r .leaves) m s End.done;
+      range-alike =
+          alike text lent memory store budget (report budget r) (r .leaves) m s (fault Fault.out-of-range);
+      one-of-three = ends text lent memory store budget (exec sum32 c (state budget store)) m s
+          (ticked sum32 steady32 c budget store .spent-all);
+      stack = λ steps.
+          inside sum32 D (machine-cells D) (to-m-prog (ccomp c)) steps
+          (loaded (table (ccomp c)) D (cells c) store) .1;
+    }
+
+-- ---- Assembly
+
+pub assembly-fitted : AssemblyFitted
+unfolding run-assembly assembly-tests settle and-then
+assembly-fitted text bytes c read m deep long budget = rules ∙ sym (ap told called)
+  where
+    w : Within c
+    w = accepted text bytes c .0 read .0
+
+    few-records : length (ccomp c) ≤ 4096
+    few-records = omega (arith, record-count c, short c, w .short)
+
+    s : Result (Machine Assembly)
+    s = assembly-run (ccomp c) m budget
+
+    same : seen (λ m. m .store) s ≡ run-rules sum32 c budget (m .store)
+    same =
+        ap (λ D. seen (λ m. m .store) (run sum32 D assembly (ccomp c) budget (fresh m))) deep
+        ∙ assembled sum32 c budget m deep
+
+    rules : run-source text (m .store) budget ≡ (gives (report budget s), s .leaves .memory .store)
+    rules =
+        source-runs text c (m .store) budget read long
+        ∙ ap (λ (r : Result Store). (gives (report budget r), r .leaves)) (sym same)
+
+    called : run-assembly (code-bytes assembly-kind (ccomp c)) m budget
+        ≡ (gives (report budget s), s .leaves .memory)
+    called = simp (
+      whole-written assembly-kind (ccomp c) few-records,
+      eq-eqb (length (m .store)) 64 long,
+      written .in-assembly (ccomp c) (codes c (w .valid) (omega (arith, record-count c, few-records)) .in-assembly),
+      le-leb (length (m .stack)) 64 (omega (arith, shallow c (w .nested))),
+    )
+
+    told : Answer Ran × Assembly → Answer Ran × Store
+    told x = (x .0, x .1 .store)

@@ -1,0 +1,127 @@
+-- The four calls in a row, of a command within the limits and buffers of the right lengths: none declines, and what
+-- they give and leave is the run of the machine code on the loaded memory, read back.
+use mathlib.Core.Path.{_≡_, _∙_, ap}
+use Prim.Native.Nat.{ℕ, _+_, _*_, _≤_}
+use native.Mathlib.Omega.{arith}
+use mathlib.Core.Bool.{true}
+use mathlib.Core.List.{List}
+use lib.IntN.{ℤ}
+use lib.ListN.{length, take, length-set}
+use borrow.Author.Tests.{eq-eqb, le-leb}
+use Rattle.base.specs.Answers.{Answer, gives, and-then, settle}
+use Rattle.base.specs.Ends.{Result, Ran, report}
+use Rattle.word.specs.Sums.{sum32}
+use Rattle.text.specs.Syntax.{Command}
+use Rattle.text.specs.Reading.{read-text}
+use Rattle.text.specs.Encoding.{Within}
+use Rattle.text.specs.Sizes.{records, depth, cells, Sizes, sizes}
+use Rattle.text.proofs.Sizes.{short, shallow, few}
+use Rattle.source.specs.Rules.{Store}
+use Rattle.record.specs.Records.{MachineCode}
+use Rattle.record.specs.Bytes.{machine-kind, over}
+use Rattle.record.proofs.Written.{whole-written, written}
+use Rattle.machine.specs.Machine.{Machine}
+use Rattle.machine.specs.Memories.{cells as machine-cells}
+use Rattle.machine.specs.Calls.{memory-fits, machine-tests, machine-run, run-machine}
+use Rattle.machine.proofs.Bounds.{kept}
+use Rattle.compile.specs.Compilation.{ccomp}
+use Rattle.compile.specs.Table.{to-m-prog, table}
+use Rattle.compile.specs.Calls.{machine-bytes, Compiled, compile}
+use Rattle.compile.proofs.Tables.{tables, named-variables}
+use Rattle.compile.proofs.Codes.{codes}
+use Rattle.compile.proofs.Calls.{compiled, machine-count, machine-length, taken-over}
+use Rattle.pod.specs.Loading.{loaded, read-back}
+use Rattle.pod.specs.Calls.{pod-tests, load, read-back-call, four-calls}
+use Rattle.pod.specs.Demand3.{Ready}
+use Rattle.pod.proofs.Loading.{length-loaded}
+
+module _ (text : List ℕ) (c : Command) (read : read-text text ≡ gives c) (w : Within c)
+    (lent : Compiled) (memory : List ℤ) (store : Store) (ready : Ready c lent memory store) (budget : ℕ) where
+  abbrev P : MachineCode
+  P = to-m-prog (ccomp c)
+
+  abbrev t : List ℕ
+  t = table (ccomp c)
+
+  abbrev D : ℕ
+  D = depth c
+
+  abbrev n : ℕ
+  n = cells c
+
+  few-records : records c ≤ 4096
+  few-records = omega (arith, short c, w .short)
+
+  -- ---- loading, and reading back, of a memory of the right length
+  fits : (m : List ℤ) → length m ≡ D + 1 + n → memory-fits D n m ≡ true
+  fits m h = simp (
+    le-leb D 64 (omega (arith, shallow c (w .nested))),
+    le-leb n 64 (few c),
+    eq-eqb (length m) (D + 1 + n) h,
+  )
+
+  pod-tested : (m : List ℤ) → length m ≡ D + 1 + n → pod-tests t store D m ≡ gives n
+  unfolding pod-tests
+  pod-tested m h = rw (tables c (w .valid) .passes) (simp (
+    eq-eqb (length t) 64 (tables c (w .valid) .long),
+    eq-eqb (length store) 64 (ready .store-cells),
+    named-variables c (w .valid) .in-table,
+    fits m h,
+  ))
+
+  abbrev ready-memory : List ℤ
+  ready-memory = loaded t D n store
+
+  loads : load t store D memory ≡ (gives n, ready-memory)
+  unfolding load settle
+  loads = simp (pod-tested memory (ready .memory-cells))
+
+  -- ---- running
+  abbrev ran : Result (Machine (List ℤ))
+  ran = machine-run P ready-memory D budget
+
+  runs : run-machine (machine-bytes c) ready-memory D n budget ≡ (gives (report budget ran), ran .leaves .memory)
+  unfolding run-machine machine-tests settle and-then
+  runs = simp (
+    whole-written (machine-kind n) P (omega (arith, machine-count c, few-records)),
+    written .in-machine n P (codes c (w .valid) few-records .in-machine),
+    fits ready-memory (length-loaded t D n store),
+  )
+
+  -- a run keeps the memory's length
+  same-length : length (ran .leaves .memory) ≡ D + 1 + n
+  same-length =
+      kept sum32 D (machine-cells D) P (λ m. length m ≡ D + 1 + n)
+      (record { saved = λ m a z h. length-set m _ z ∙ h; poked = λ m i z l h. length-set m _ z ∙ h })
+      budget ready-memory (length-loaded t D n store)
+
+  reads : read-back-call t (ran .leaves .memory) D store ≡ (gives n, read-back t D store (ran .leaves .memory))
+  unfolding read-back-call settle
+  reads = simp (pod-tested (ran .leaves .memory) same-length)
+
+  -- ---- in a row
+  abbrev after-run : Sizes → List ℕ → Answer Ran × List ℤ → Answer (Ran × Store)
+  after-run z t running =
+      and-then (running .0) (λ ran.
+      let reading = read-back-call t (running .1) (z .depth) store in
+      and-then (reading .0) (λ _. gives (ran, reading .1)))
+
+  abbrev after-load : Sizes → Compiled → Answer ℕ × List ℤ → Answer (Ran × Store)
+  after-load z left loading =
+      and-then (loading .0) (λ _.
+      after-run z (left .table)
+      (run-machine (take (5 * z .records) (left .code)) (loading .1) (z .depth) (z .cells) budget))
+
+  abbrev after-compile : Answer Sizes × Compiled → Answer (Ran × Store)
+  after-compile x = and-then (x .0) (λ z. after-load z (x .1) (load (x .1 .table) store (z .depth) memory))
+
+  pub in-a-row : four-calls text lent memory store budget
+      ≡ gives (report budget ran, read-back t D store (ran .leaves .memory))
+  unfolding four-calls and-then
+  in-a-row =
+      ap after-compile (compiled text lent read (ready .table-bytes) (ready .output))
+      ∙ ap (after-load (sizes c) (record { code = over (machine-bytes c) (lent .code); table = t })) loads
+      ∙ ap (λ code. after-run (sizes c) t (run-machine code ready-memory D n budget))
+      (taken-over (machine-bytes c) (lent .code) (5 * records c) (machine-length c))
+      ∙ ap (after-run (sizes c) t) runs
+      ∙ ap (λ (reading : Answer ℕ × Store). and-then (reading .0) (λ _. gives (report budget ran, reading .1))) reads

@@ -1,0 +1,136 @@
+-- Profiles A to K (document 01, "Profiles to hold it to"), as one table.
+use mathlib.Core.Path.{_≡_}
+use Prim.Native.Nat.{ℕ, _+_, _*_}
+use mathlib.Core.List.{List, [], _∷_, map}
+use lib.IntN.{ℤ, pos, negsuc}
+use lib.ListN.{length, getD, replicate, take}
+use Rattle.base.specs.Answers.{Answer, gives, and-then}
+use Rattle.base.specs.Ends.{End, done, spent, fault, out-of-range, Ran}
+use Rattle.text.specs.Syntax.{Command}
+use Rattle.text.specs.Reading.{read-text}
+use Rattle.text.specs.Sizes.{records, depth, cells}
+use Rattle.text.specs.Cases.{A·text, B·text, C·text, D·text, E·text, F·text, G·text, H·text, I·text, J·text}
+use Rattle.text.specs.Cases.{K·text}
+use Rattle.source.specs.Rules.{Store}
+use Rattle.source.specs.Calls.{run-source}
+use Rattle.source.specs.Cases.{zeros}
+use Rattle.record.specs.Records.{AssemblyCode, LOADI, LOAD, ADD, STORE, JMP, JMPLESS, JMPGE, variable}
+use Rattle.compile.specs.Compilation.{ccomp}
+use Rattle.compile.specs.Table.{table}
+use Rattle.compile.specs.Calls.{Compiled}
+use Rattle.pod.specs.Calls.{four-calls}
+
+-- A text and a budget; the assembly records; D; n; the addresses of x0, x1 and x2; and, starting from zeros, the end,
+-- the count and x0
+pub record Case : Type 0 where
+  pub text : List ℕ
+  pub budget : ℕ
+  pub records : AssemblyCode
+  pub stack : ℕ
+  pub cells : ℕ
+  pub addresses : List ℕ
+  pub end : End
+  pub count : ℕ
+  pub x0 : ℤ
+
+abbrev pub case : List ℕ → ℕ → AssemblyCode → ℕ → ℕ → List ℕ → End → ℕ → ℤ → Case
+case text b P d n a e k x = record {
+  text = text;
+  budget = b;
+  records = P;
+  stack = d;
+  cells = n;
+  addresses = a;
+  end = e;
+  count = k;
+  x0 = x;
+}
+
+-- ---- The records
+
+abbrev pub B·records : AssemblyCode
+B·records = LOAD (variable 1) ∷ LOADI (pos 5) ∷ ADD ∷ STORE (variable 0) ∷ []
+
+-- "8 records, JMPGE 5, JMP −8"
+abbrev pub C·records : AssemblyCode
+C·records =
+    LOAD (variable 0) ∷ LOADI (pos 3) ∷ JMPGE (pos 5)
+    ∷ LOAD (variable 0) ∷ LOADI (pos 1) ∷ ADD ∷ STORE (variable 0) ∷ JMP (negsuc 7) ∷ []
+
+abbrev pub D·records : AssemblyCode
+D·records = JMP (pos 2) ∷ LOADI (pos 1) ∷ STORE (variable 0) ∷ []
+
+abbrev pub E·records : AssemblyCode
+E·records = JMP (pos 1) ∷ JMP (pos 2) ∷ LOADI (pos 1) ∷ STORE (variable 0) ∷ []
+
+abbrev pub F·records : AssemblyCode
+F·records =
+    JMP (pos 6) ∷ LOADI (pos 2147483647) ∷ LOADI (pos 1) ∷ ADD ∷ LOADI (pos 0) ∷ JMPGE (pos 1) ∷ JMP (pos 0) ∷ []
+
+abbrev pub G·records : AssemblyCode
+G·records =
+    LOADI (pos 2147483647) ∷ LOADI (pos 1) ∷ ADD ∷ LOADI (pos 0) ∷ JMPGE (pos 2) ∷ JMP (pos 1) ∷ JMP (pos 0) ∷ []
+
+abbrev pub H·records : AssemblyCode
+H·records = LOADI (negsuc 2147483647) ∷ LOADI (pos 2147483647) ∷ ADD ∷ STORE (variable 0) ∷ []
+
+abbrev pub I·records : AssemblyCode
+I·records = LOAD (variable 1) ∷ STORE (variable 0) ∷ LOAD (variable 1) ∷ STORE (variable 2) ∷ []
+
+abbrev pub J·records : AssemblyCode
+J·records = JMP (negsuc 0) ∷ []
+
+abbrev pub K·records : AssemblyCode
+K·records = LOADI (pos 1) ∷ LOADI (pos 1) ∷ ADD ∷ LOADI (pos 1) ∷ ADD ∷ STORE (variable 0) ∷ []
+
+-- ---- The table
+
+-- text, budget, records, D, n, addresses of x0, x1 and x2, end, count, x0
+unfoldable pub cases : List Case
+cases =
+    case A·text 1000000 [] 0 0 (0 ∷ 0 ∷ 0 ∷ []) done 0 (pos 0)
+    ∷ case B·text 1000000 B·records 2 2 (1 ∷ 2 ∷ 0 ∷ []) done 4 (pos 5)
+    ∷ case B·text 4 B·records 2 2 (1 ∷ 2 ∷ 0 ∷ []) done 4 (pos 5)
+    ∷ case B·text 3 B·records 2 2 (1 ∷ 2 ∷ 0 ∷ []) spent 3 (pos 0)
+    ∷ case C·text 1000000 C·records 2 1 (1 ∷ 0 ∷ 0 ∷ []) done 27 (pos 3)
+    ∷ case D·text 1000000 D·records 1 1 (1 ∷ 0 ∷ 0 ∷ []) done 1 (pos 0)
+    ∷ case E·text 1000000 E·records 1 1 (1 ∷ 0 ∷ 0 ∷ []) done 3 (pos 1)
+    ∷ case F·text 1000000 F·records 2 0 (0 ∷ 0 ∷ 0 ∷ []) done 1 (pos 0)
+    ∷ case G·text 1000000 G·records 2 0 (0 ∷ 0 ∷ 0 ∷ []) (fault out-of-range) 3 (pos 0)
+    ∷ case H·text 1000000 H·records 2 1 (1 ∷ 0 ∷ 0 ∷ []) done 4 (negsuc 0)
+    ∷ case I·text 1000000 I·records 1 3 (3 ∷ 2 ∷ 1 ∷ []) done 4 (pos 0)
+    ∷ case J·text 0 J·records 0 0 (0 ∷ 0 ∷ 0 ∷ []) spent 0 (pos 0)
+    ∷ case J·text 1 J·records 0 0 (0 ∷ 0 ∷ 0 ∷ []) spent 1 (pos 0)
+    ∷ case J·text 1000 J·records 0 0 (0 ∷ 0 ∷ 0 ∷ []) spent 1000 (pos 0)
+    ∷ case K·text 1000000 K·records 2 1 (1 ∷ 0 ∷ 0 ∷ []) done 6 (pos 3)
+    ∷ []
+
+-- a case as the definitions have it, its run telling r
+unfoldable pub measured : Case → Command → Ran → Store → Case
+measured k c r s =
+    case (k .text) (k .budget) (ccomp c) (depth c) (cells c) (take 3 (table (ccomp c))) (r .end) (r .count)
+    (getD s 0 (pos 0))
+
+-- by the source rules
+unfoldable pub by-rules : Case → Command → Answer Case
+by-rules k c =
+    let r = run-source (k .text) zeros (k .budget) in
+    and-then (r .0) (λ ran. gives (measured k c ran (r .1)))
+
+-- by the four calls on the machine, the lent buffers filled with other values first
+unfoldable pub by-machine : Case → Command → Answer Case
+by-machine k c =
+    let lent : Compiled = record { code = replicate (5 * records c) 0xee; table = replicate 64 0xee } in
+    let memory : List ℤ = replicate (depth c + 1 + cells c) (pos 7) in
+    and-then (four-calls (k .text) lent memory zeros (k .budget)) (λ (ran, s). gives (measured k c ran s))
+
+-- Every row of the table holds, by the source rules and by the machine.
+abbrev pub Profiles : Type 0
+Profiles =
+    (map (λ k. and-then (read-text (k .text)) (by-rules k)) cases ≡ map gives cases)
+    × (map (λ k. and-then (read-text (k .text)) (by-machine k)) cases ≡ map gives cases)
+
+-- J is spent at every budget.
+abbrev pub Forever : Type 0
+Forever = (budget : ℕ) (s : Store) → length s ≡ 64
+    → run-source J·text s budget ≡ (gives (record { end = spent; count = budget }), s)

@@ -1,0 +1,26 @@
+-- The count of a run of the source rules is the number of its ticks, and at most the budget. A run that is not spent
+-- and has charged k ticks needs exactly k: under any budget of k or more it ends alike, with the rest of the budget
+-- left, and under any smaller one it is spent. The proof of the same spelling stands in proofs/.
+use mathlib.Core.Path.{_≡_}
+use Prim.Native.Nat.{ℕ, _+_, _≤_, _<_}
+use lib.IntN.{ℤ}
+use Rattle.base.specs.Ends.{End, result}
+use Rattle.word.specs.Sums.{SumRule}
+use Rattle.text.specs.Syntax.{Command}
+use Rattle.source.specs.Rules.{Store, run-rules}
+
+-- A rule for sums that does not look at the ticks left
+abbrev pub Steady : SumRule → Type 0
+Steady sum = (n n′ : ℕ) (x y : ℤ) → sum n x y ≡ sum n′ x y
+
+-- What a run of c from s under the budget n says of its ticks
+pub record Ticks (sum : SumRule) (c : Command) (n : ℕ) (s : Store) : Type 0 where
+  pub most : run-rules sum c n s .left ≤ n
+  pub spent-all : run-rules sum c n s .end ≡ End.spent → run-rules sum c n s .left ≡ 0
+  pub enough : (run-rules sum c n s .end ≡ End.spent → ⊥) → (k : ℕ) → k + run-rules sum c n s .left ≡ n → (more : ℕ)
+      → run-rules sum c (k + more) s ≡ result (run-rules sum c n s .end) more (run-rules sum c n s .leaves)
+  pub fewer : (run-rules sum c n s .end ≡ End.spent → ⊥) → (k : ℕ) → k + run-rules sum c n s .left ≡ n
+      → (j : ℕ) → j < k → run-rules sum c j s .end ≡ End.spent
+
+abbrev pub Ticked : SumRule → Type 0
+Ticked sum = Steady sum → (c : Command) (n : ℕ) (s : Store) → Ticks sum c n s

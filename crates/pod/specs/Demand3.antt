@@ -1,0 +1,85 @@
+-- Demand 3. For every accepted text, every starting store and every budget, the four calls in a row give the end, the
+-- count and the store that the source rules give under that budget; none of the four declines; the end is done, spent
+-- or out of range, never short, full or astray; and the stack never passes D.
+-- The proof of the same spelling stands in proofs/.
+use mathlib.Core.Path.{_≡_}
+use mathlib.Core.Logic.{_⊎_, _↔_}
+use Prim.Native.Nat.{ℕ, _+_, _*_, _≤_}
+use mathlib.Core.List.{List}
+use lib.IntN.{ℤ}
+use lib.ListN.{length}
+use Rattle.base.specs.Answers.{gives}
+use Rattle.base.specs.Ends.{Fault, End, fault, Ran}
+use Rattle.text.specs.Syntax.{Command}
+use Rattle.text.specs.Reading.{read-text}
+use Rattle.text.specs.Encoding.{Bytes}
+use Rattle.text.specs.Sizes.{records, depth, cells}
+use Rattle.source.specs.Rules.{Store}
+use Rattle.source.specs.Calls.{run-source}
+use Rattle.machine.specs.Memories.{Assembly}
+use Rattle.machine.specs.Calls.{machine-run, run-assembly}
+use Rattle.record.specs.Bytes.{assembly-kind, code-bytes}
+use Rattle.compile.specs.Compilation.{ccomp}
+use Rattle.compile.specs.Table.{to-m-prog, table}
+use Rattle.compile.specs.Calls.{Compiled}
+use Rattle.pod.specs.Loading.{loaded}
+use Rattle.pod.specs.Calls.{four-calls}
+
+-- "Lengths as this paper asks"
+pub record Ready (c : Command) (lent : Compiled) (memory : List ℤ) (store : Store) : Type 0 where
+  pub output : 5 * records c ≤ length (lent .code)
+  pub table-bytes : length (lent .table) ≡ 64
+  pub memory-cells : length memory ≡ depth c + 1 + cells c
+  pub store-cells : length store ≡ 64
+
+-- What the two sides tell: an end e at count k with the store t
+abbrev pub MachineEnds : List ℕ → Compiled → List ℤ → Store → ℕ → End → ℕ → Store → Type 0
+MachineEnds text lent memory store budget e k t =
+    four-calls text lent memory store budget ≡ gives (record { end = e; count = k }, t)
+
+abbrev pub RulesEnd : List ℕ → Store → ℕ → End → ℕ → Store → Type 0
+RulesEnd text store budget e k t = run-source text store budget ≡ (gives (record { end = e; count = k }), t)
+
+-- Demand 3 of one text, its command, the lent buffers, a starting store and a budget
+pub record Alike (text : List ℕ) (c : Command) (lent : Compiled) (memory : List ℤ) (store : Store) (budget : ℕ)
+    : Type 0 where
+  -- "The run is done after k instructions with a store exactly when document 01's source rules, under the same budget,
+  -- are done at k ticks with that store"
+  pub done-alike : (k : ℕ) (t : Store)
+      → MachineEnds text lent memory store budget End.done k t ↔ RulesEnd text store budget End.done k t
+  -- "It stops on a sum out of range at k with a store exactly when those rules do, at that k with that store"
+  pub range-alike : (k : ℕ) (t : Store)
+      → MachineEnds text lent memory store budget (fault Fault.out-of-range) k t
+      ↔ RulesEnd text store budget (fault Fault.out-of-range) k t
+  -- "k at most the budget"; "otherwise both are spent, at exactly the budget, with the same store"
+  pub one-of-three :
+      ((k : ℕ) × (t : Store) × (k ≤ budget) × MachineEnds text lent memory store budget End.done k t)
+      ⊎ ((k : ℕ) × (t : Store) × (k ≤ budget)
+      × MachineEnds text lent memory store budget (fault Fault.out-of-range) k t)
+      ⊎ ((t : Store) × MachineEnds text lent memory store budget End.spent budget t
+      × RulesEnd text store budget End.spent budget t)
+  -- "its stack never passes the depth D worked out from the text": after any number of steps
+  pub stack : (steps : ℕ)
+      → machine-run (to-m-prog (ccomp c)) (loaded (table (ccomp c)) (depth c) (cells c) store) (depth c) steps
+      .leaves .size ≤ depth c
+
+-- Demand 3.
+abbrev pub Demand3 : Type 0
+Demand3 = (text : List ℕ) → Bytes text → (c : Command) → read-text text ≡ gives c
+    → (lent : Compiled) (memory : List ℤ) (store : Store) → Ready c lent memory store
+    → (budget : ℕ) → Alike text c lent memory store budget
+
+-- The same in one line: the four calls give what the source run gives and leave the store that it leaves.
+abbrev pub Fitted : Type 0
+Fitted = (text : List ℕ) → Bytes text → (c : Command) → read-text text ≡ gives c
+    → (lent : Compiled) (memory : List ℤ) (store : Store) → Ready c lent memory store
+    → (budget : ℕ) → (ran : Ran) × (t : Store)
+    × (four-calls text lent memory store budget ≡ gives (ran, t)) × (run-source text store budget ≡ (gives ran, t))
+
+-- And of assembly: a text's own assembly, run on a stack of D cells, gives what the source run gives and leaves the
+-- store that it leaves.
+abbrev pub AssemblyFitted : Type 0
+AssemblyFitted = (text : List ℕ) → Bytes text → (c : Command) → read-text text ≡ gives c
+    → (m : Assembly) → length (m .stack) ≡ depth c → length (m .store) ≡ 64 → (budget : ℕ)
+    → let r = run-assembly (code-bytes assembly-kind (ccomp c)) m budget in
+    run-source text (m .store) budget ≡ (r .0, r .1 .store)

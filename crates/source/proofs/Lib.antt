@@ -1,0 +1,5 @@
+pub mod Cases
+pub mod Passes
+pub mod Equivalence
+pub mod SumRules
+pub mod Calls

@@ -1,0 +1,7 @@
+pub mod Syntax
+pub mod Reading
+pub mod Encoding
+pub mod Sizes
+pub mod Calls
+pub mod Claims
+pub mod Cases

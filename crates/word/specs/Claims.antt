@@ -1,0 +1,34 @@
+-- What is claimed of 32-bit numbers. The proof of the same spelling stands in proofs/.
+use mathlib.Core.Path.{_≡_}
+use Prim.Native.Nat.{ℕ, _<_}
+use mathlib.Core.List.{[], _∷_}
+use lib.IntN.{ℤ, pos, negsuc, _+ℤ_}
+use mir.Syntax.{w32}
+use mir.Val.{SFits}
+use Rattle.word.specs.Sums.{SumRule}
+use Rattle.word.specs.Numbers.{number-of, number-at, bytes-of}
+use Rattle.word.specs.Targets.{target}
+use Rattle.word.specs.declared.Sum.the-variants.{Fits}
+use Rattle.word.specs.declared.Target.the-variants.{To}
+
+-- A sum that fits is the sum.
+abbrev pub Exact : SumRule → Type 0
+Exact sum = (n : ℕ) (x y z : ℤ) → sum n x y ≡ Fits z → z ≡ x +ℤ y
+
+-- A 32-bit number's four bytes give that number. (SFits w32 z: z is from −2147483648 to 2147483647.)
+abbrev pub NumberOfBytes : Type 0
+NumberOfBytes = (z : ℤ) → SFits w32 z → number-at (bytes-of z) 0 ≡ z
+
+-- Four bytes give a number that has these four bytes.
+abbrev pub BytesOfNumber : Type 0
+BytesOfNumber = (b0 b1 b2 b3 : ℕ) → b0 < 256 → b1 < 256 → b2 < 256 → b3 < 256
+    → bytes-of (number-of b0 b1 b2 b3) ≡ b0 ∷ b1 ∷ b2 ∷ b3 ∷ []
+
+-- Four bytes give a 32-bit number.
+abbrev pub NumbersFit : Type 0
+NumbersFit = (b0 b1 b2 b3 : ℕ) → b0 < 256 → b1 < 256 → b2 < 256 → b3 < 256 → SFits w32 (number-of b0 b1 b2 b3)
+
+-- Profile C's two jumps, in code of 8 records: JMPGE 5 at position 2 leads to the end position, JMP −8 at position 7 to
+-- the first record.
+abbrev pub Jumps : Type 0
+Jumps = (target 2 (pos 5) 8 ≡ To 8) × (target 7 (negsuc 7) 8 ≡ To 0)

@@ -1,0 +1,4 @@
+pub mod Sums
+pub mod Numbers
+pub mod Targets
+pub mod Claims
