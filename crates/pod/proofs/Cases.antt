@@ -1,4 +1,4 @@
--- Profiles A to K hold of the definitions, by computation (Cases: Profiles, Forever).
+-- Profiles A to K hold of the definitions, by computation (Cases: MemoryOfI, Profiles, Forever).
 use mathlib.Core.Path.{_≡_, refl, _∙_, ap}
 use Prim.Native.Nat.{ℕ, zero, suc, _-_, _<_}
 use native.Mathlib.Omega.{arith}
@@ -32,7 +32,11 @@ use Rattle.compile.specs.Table.{member, once, vars, addr-of, entries, times, on
 use Rattle.compile.specs.Calls.{compile-tests, compile}
 use Rattle.pod.specs.Loading.{put, fill, got, read-back}
 use Rattle.pod.specs.Calls.{pod-tests, load, read-back-call, four-calls}
-use Rattle.pod.specs.Cases.{cases, measured, by-rules, by-machine, Profiles, Forever}
+use Rattle.pod.specs.Cases.{cases, measured, by-rules, by-machine, Profiles, Forever, MemoryOfI}
+
+pub memory-of-I : MemoryOfI
+unfolding put fill
+memory-of-I = refl
 
 pub profiles : Profiles
 unfolding cases measured by-rules by-machine zeros

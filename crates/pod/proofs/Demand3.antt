@@ -27,7 +27,7 @@ use Rattle.record.proofs.Written.{whole-written, written}
 use Rattle.machine.specs.Machine.{Machine, fresh, run}
 use Rattle.machine.specs.Memories.{Assembly, assembly, cells as machine-cells}
 use Rattle.machine.specs.Calls.{machine-run, assembly-tests, assembly-run, run-assembly}
-use Rattle.machine.proofs.Bounds.{inside}
+use Rattle.machine.proofs.Inside.{inside}
 use Rattle.compile.specs.Compilation.{ccomp}
 use Rattle.compile.specs.Table.{to-m-prog, table}
 use Rattle.compile.specs.Calls.{Compiled}

@@ -23,7 +23,7 @@ use Rattle.record.proofs.Written.{whole-written, written}
 use Rattle.machine.specs.Machine.{Machine}
 use Rattle.machine.specs.Memories.{cells as machine-cells}
 use Rattle.machine.specs.Calls.{memory-fits, machine-tests, machine-run, run-machine}
-use Rattle.machine.proofs.Bounds.{kept}
+use Rattle.machine.proofs.Inside.{kept}
 use Rattle.compile.specs.Compilation.{ccomp}
 use Rattle.compile.specs.Table.{to-m-prog, table}
 use Rattle.compile.specs.Calls.{machine-bytes, Compiled, compile}

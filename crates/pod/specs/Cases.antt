@@ -18,6 +18,7 @@ use Rattle.record.specs.Records.{AssemblyCode, LOADI, LOAD, ADD, STORE, JMP, JM
 use Rattle.compile.specs.Compilation.{ccomp}
 use Rattle.compile.specs.Table.{table}
 use Rattle.compile.specs.Calls.{Compiled}
+use Rattle.pod.specs.Loading.{loaded}
 use Rattle.pod.specs.Calls.{four-calls}
 
 -- A text and a budget; the assembly records; D; n; the addresses of x0, x1 and x2; and, starting from zeros, the end,
@@ -134,3 +135,9 @@ Profiles =
 abbrev pub Forever : Type 0
 Forever = (budget : ℕ) (s : Store) → length s ≡ 64
     → run-source J·text s budget ≡ (gives (record { end = spent; count = budget }), s)
+
+-- Profile I's table and a store of 7, 8, 9 and zeros, loaded with D 1: the stack's cell, address 0, then x2, x1, x0.
+abbrev pub MemoryOfI : Type 0
+MemoryOfI =
+    loaded (3 ∷ 2 ∷ 1 ∷ replicate 61 0) 1 3 (pos 7 ∷ pos 8 ∷ pos 9 ∷ replicate 61 (pos 0))
+    ≡ pos 0 ∷ pos 0 ∷ pos 9 ∷ pos 8 ∷ pos 7 ∷ []
