@@ -1,3 +1,4 @@
 pub mod Acts
 pub mod Ends
 pub mod Answers
+pub mod Runs
