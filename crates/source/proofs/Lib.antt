@@ -3,3 +3,4 @@ pub mod Passes
 pub mod Equivalence
 pub mod SumRules
 pub mod Calls
+pub mod Texts

@@ -1,17 +1,22 @@
 -- What is claimed of the source rules. The proof of the same spelling stands in proofs/.
--- They lead to the stores of the published big-step rules; a run's count is the number of its ticks, at most the
--- budget; more budget changes nothing but the ticks left of a run that is not spent.
+-- They lead to the stores to which the published big-step rules lead, wherever no budget ends out of range; and two rules
+-- for sums that agree give the same runs.
 use mathlib.Core.Path.{_≡_}
 use mathlib.Core.Logic.{_↔_}
-use Prim.Native.Nat.{ℕ, _+_, _≤_, _<_}
+use Prim.Native.Nat.{ℕ}
+use mathlib.Core.List.{List}
 use lib.IntN.{ℤ}
+use lib.ListN.{length}
 use Rattle.base.specs.Acts.{ok, ended}
-use Rattle.base.specs.Ends.{End, Result, result}
+use Rattle.base.specs.Answers.{gives}
+use Rattle.base.specs.Ends.{Fault, End, fault}
 use Rattle.word.specs.Sums.{SumRule}
 use Rattle.word.specs.declared.Sum.the-variants.{Fits}
 use Rattle.text.specs.Syntax.{Command}
+use Rattle.text.specs.Reading.{read-text}
 use Rattle.source.specs.BigStep.{BigStep}
-use Rattle.source.specs.Rules.{Early, State, Store, state, exec, run-rules}
+use Rattle.source.specs.Calls.{run-source}
+use Rattle.source.specs.Rules.{Early, State, Store, state, exec}
 
 -- ---- The published big-step rules
 
@@ -21,6 +26,19 @@ abbrev pub Published : SumRule → Type 0
 Published sum = (c : Command) (s : Store)
     → ((n : ℕ) (u : State) → exec sum c (state n s) ≡ ended (Early.out-of-range, u) → ⊥)
     → (t : Store) → ((n : ℕ) × (n′ : ℕ) × (exec sum c (state n s) ≡ ok tt (state n′ t))) ↔ BigStep c s t
+
+-- The same of texts and of the call run_source.
+pub record PublishedText (text : List ℕ) (c : Command) (s : Store) : Type 0 where
+  pub same :
+      ((budget k : ℕ) (u : Store)
+      → run-source text s budget ≡ (gives (record { end = fault Fault.out-of-range; count = k }), u) → ⊥)
+      → (t : Store)
+      → ((budget : ℕ) × (k : ℕ) × (run-source text s budget ≡ (gives (record { end = End.done; count = k }), t)))
+      ↔ BigStep c s t
+
+abbrev pub PublishedTexts : Type 0
+PublishedTexts = (text : List ℕ) (c : Command) → read-text text ≡ gives c → (s : Store) → length s ≡ 64
+    → PublishedText text c s
 
 -- ---- Two rules for sums
 
