@@ -1,0 +1,9 @@
+// The static libraries that `rt staticlib` wrote.
+fn main() {
+    let root = std::env::var("CARGO_MANIFEST_DIR").unwrap();
+    println!("cargo:rustc-link-search=native={root}/../target/staticlib");
+    for name in ["pod", "probe"] {
+        println!("cargo:rustc-link-lib=static={name}");
+        println!("cargo:rerun-if-changed={root}/../target/staticlib/lib{name}.a");
+    }
+}

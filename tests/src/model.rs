@@ -1,0 +1,652 @@
+//! A simple interpreter of profiles, written from document 01 alone: reading, the source rules, compilation, both
+//! executors, the way back, and the printing program. Plain rather than fast; nothing here is shared with the proved code.
+
+use std::fmt::Write;
+
+// ---- Profile text
+
+#[derive(Clone, Debug, PartialEq)]
+pub enum Expression {
+    Constant(i32),
+    Variable(u8),
+    Plus(Box<Expression>, Box<Expression>),
+}
+
+#[derive(Clone, Debug, PartialEq)]
+pub enum Condition {
+    Bc(bool),
+    Not(Box<Condition>),
+    And(Box<Condition>, Box<Condition>),
+    Less(Expression, Expression),
+}
+
+#[derive(Clone, Debug, PartialEq)]
+pub enum Command {
+    Skip,
+    Assign(u8, Expression),
+    Sequence(Box<Command>, Box<Command>),
+    If(Condition, Box<Command>, Box<Command>),
+    While(Condition, Box<Command>),
+}
+
+/// A refusal's number and place.
+#[derive(Clone, Copy, Debug, PartialEq, Eq)]
+pub struct Refusal(pub u8, pub usize);
+
+struct Reader<'a> {
+    text: &'a [u8],
+    at: usize,
+}
+
+impl Reader<'_> {
+    fn byte(&mut self) -> Result<u8, Refusal> {
+        let byte = *self.text.get(self.at).ok_or(Refusal(1, self.text.len()))?;
+        self.at += 1;
+        Ok(byte)
+    }
+
+    /// A construct's first byte, the construct being at this nesting: 1, then 4.
+    fn first(&mut self, nesting: usize) -> Result<u8, Refusal> {
+        let byte = self.byte()?;
+        if nesting > 64 {
+            return Err(Refusal(4, self.at - 1));
+        }
+        Ok(byte)
+    }
+
+    fn unknown<T>(&self) -> Result<T, Refusal> {
+        Err(Refusal(2, self.at - 1))
+    }
+
+    /// An operand byte of at most `most`: 1, then 3.
+    fn operand(&mut self, most: u8) -> Result<u8, Refusal> {
+        let byte = self.byte()?;
+        if byte > most {
+            return Err(Refusal(3, self.at - 1));
+        }
+        Ok(byte)
+    }
+
+    fn expression(&mut self, nesting: usize) -> Result<Expression, Refusal> {
+        Ok(match self.first(nesting)? {
+            0x10 => {
+                let mut bytes = [0; 4];
+                for byte in &mut bytes {
+                    *byte = self.byte()?;
+                }
+                Expression::Constant(i32::from_le_bytes(bytes))
+            }
+            0x11 => Expression::Variable(self.operand(63)?),
+            0x12 => Expression::Plus(Box::new(self.expression(nesting + 1)?), Box::new(self.expression(nesting + 1)?)),
+            _ => return self.unknown(),
+        })
+    }
+
+    fn condition(&mut self, nesting: usize) -> Result<Condition, Refusal> {
+        Ok(match self.first(nesting)? {
+            0x20 => Condition::Bc(self.operand(1)? == 1),
+            0x21 => Condition::Not(Box::new(self.condition(nesting + 1)?)),
+            0x22 => Condition::And(Box::new(self.condition(nesting + 1)?), Box::new(self.condition(nesting + 1)?)),
+            0x23 => Condition::Less(self.expression(nesting + 1)?, self.expression(nesting + 1)?),
+            _ => return self.unknown(),
+        })
+    }
+
+    fn command(&mut self, nesting: usize) -> Result<Command, Refusal> {
+        Ok(match self.first(nesting)? {
+            0x00 => Command::Skip,
+            0x01 => Command::Assign(self.operand(63)?, self.expression(nesting + 1)?),
+            0x02 => Command::Sequence(Box::new(self.command(nesting + 1)?), Box::new(self.command(nesting + 1)?)),
+            0x03 => Command::If(
+                self.condition(nesting + 1)?,
+                Box::new(self.command(nesting + 1)?),
+                Box::new(self.command(nesting + 1)?),
+            ),
+            0x04 => Command::While(self.condition(nesting + 1)?, Box::new(self.command(nesting + 1)?)),
+            _ => return self.unknown(),
+        })
+    }
+}
+
+pub fn read_text(text: &[u8]) -> Result<Command, Refusal> {
+    if text.len() > 4096 {
+        return Err(Refusal(6, 0));
+    }
+    let mut reader = Reader { text, at: 0 };
+    let command = reader.command(1)?;
+    if reader.at < text.len() {
+        return Err(Refusal(5, reader.at));
+    }
+    Ok(command)
+}
+
+// ---- Source rules and ticks
+
+#[derive(Clone, Copy, Debug, PartialEq, Eq)]
+pub enum End {
+    Done,
+    Spent,
+    OutOfRange,
+    Short,
+    Full,
+    Astray,
+}
+
+/// A run of the source rules: its store, its count, its budget.
+struct Source<'a> {
+    store: &'a mut [i32],
+    count: u32,
+    budget: u32,
+}
+
+impl Source<'_> {
+    fn tick(&mut self) -> Result<(), End> {
+        if self.count == self.budget {
+            return Err(End::Spent);
+        }
+        self.count += 1;
+        Ok(())
+    }
+
+    fn value(&mut self, expression: &Expression) -> Result<i32, End> {
+        match expression {
+            Expression::Constant(z) => self.tick().map(|()| *z),
+            Expression::Variable(v) => self.tick().map(|()| self.store[*v as usize]),
+            Expression::Plus(left, right) => {
+                let (x, y) = (self.value(left)?, self.value(right)?);
+                self.tick()?;
+                x.checked_add(y).ok_or(End::OutOfRange)
+            }
+        }
+    }
+
+    fn truth(&mut self, condition: &Condition, flag: bool) -> Result<bool, End> {
+        match condition {
+            Condition::Bc(value) => {
+                if *value == flag {
+                    self.tick()?;
+                }
+                Ok(*value)
+            }
+            Condition::Not(part) => Ok(!self.truth(part, !flag)?),
+            Condition::And(left, right) => Ok(self.truth(left, false)? && self.truth(right, flag)?),
+            Condition::Less(left, right) => {
+                let (x, y) = (self.value(left)?, self.value(right)?);
+                self.tick()?;
+                Ok(x < y)
+            }
+        }
+    }
+
+    fn execute(&mut self, command: &Command) -> Result<(), End> {
+        match command {
+            Command::Skip => Ok(()),
+            Command::Assign(v, expression) => {
+                let z = self.value(expression)?;
+                self.tick()?;
+                self.store[*v as usize] = z;
+                Ok(())
+            }
+            Command::Sequence(first, second) => {
+                self.execute(first)?;
+                self.execute(second)
+            }
+            Command::If(condition, first, second) => {
+                if self.truth(condition, false)? {
+                    self.execute(first)?;
+                    self.tick()
+                } else {
+                    self.execute(second)
+                }
+            }
+            Command::While(condition, body) => {
+                while self.truth(condition, false)? {
+                    self.execute(body)?;
+                    self.tick()?;
+                }
+                Ok(())
+            }
+        }
+    }
+}
+
+pub fn run_source(text: &[u8], store: &mut [i32], budget: u32) -> Result<(End, u32), Refusal> {
+    let command = read_text(text)?;
+    if store.len() != 64 {
+        return Err(Refusal(8, 0));
+    }
+    let mut run = Source { store, count: 0, budget };
+    let end = run.execute(&command).err().unwrap_or(End::Done);
+    Ok((end, run.count))
+}
+
+// ---- Records and compilation
+
+#[derive(Clone, Copy, Debug, PartialEq, Eq)]
+pub enum Record {
+    Loadi(i32),
+    Load(usize),
+    Add,
+    Store(usize),
+    Jmp(i32),
+    Jmpless(i32),
+    Jmpge(i32),
+}
+
+use Record::*;
+
+impl Record {
+    /// What the record names.
+    fn name(self) -> Option<usize> {
+        match self {
+            Load(name) | Store(name) => Some(name),
+            _ => None,
+        }
+    }
+
+    fn renamed(self, f: impl Fn(usize) -> usize) -> Record {
+        match self {
+            Load(name) => Load(f(name)),
+            Store(name) => Store(f(name)),
+            other => other,
+        }
+    }
+
+    /// Its number and its operand.
+    fn parts(self) -> (u8, i32) {
+        match self {
+            Loadi(z) => (0, z),
+            Load(name) => (1, name as i32),
+            Add => (2, 0),
+            Store(name) => (3, name as i32),
+            Jmp(i) => (4, i),
+            Jmpless(i) => (5, i),
+            Jmpge(i) => (6, i),
+        }
+    }
+}
+
+fn acomp(expression: &Expression) -> Vec<Record> {
+    match expression {
+        Expression::Constant(z) => vec![Loadi(*z)],
+        Expression::Variable(v) => vec![Load(*v as usize)],
+        Expression::Plus(left, right) => [acomp(left), acomp(right), vec![Add]].concat(),
+    }
+}
+
+fn bcomp(condition: &Condition, flag: bool, i: i32) -> Vec<Record> {
+    match condition {
+        Condition::Bc(value) if *value == flag => vec![Jmp(i)],
+        Condition::Bc(_) => vec![],
+        Condition::Not(part) => bcomp(part, !flag, i),
+        Condition::And(left, right) => {
+            let right = bcomp(right, flag, i);
+            let left = bcomp(left, false, right.len() as i32 + if flag { 0 } else { i });
+            [left, right].concat()
+        }
+        Condition::Less(left, right) => {
+            [acomp(left), acomp(right), vec![if flag { Jmpless(i) } else { Jmpge(i) }]].concat()
+        }
+    }
+}
+
+pub fn ccomp(command: &Command) -> Vec<Record> {
+    match command {
+        Command::Skip => vec![],
+        Command::Assign(v, expression) => [acomp(expression), vec![Store(*v as usize)]].concat(),
+        Command::Sequence(first, second) => [ccomp(first), ccomp(second)].concat(),
+        Command::If(condition, first, second) => {
+            let (first, second) = (ccomp(first), ccomp(second));
+            let test = bcomp(condition, false, first.len() as i32 + 1);
+            [test, first, vec![Jmp(second.len() as i32)], second].concat()
+        }
+        Command::While(condition, body) => {
+            let body = ccomp(body);
+            let test = bcomp(condition, false, body.len() as i32 + 1);
+            let back = -((test.len() + body.len() + 1) as i32);
+            [test, body, vec![Jmp(back)]].concat()
+        }
+    }
+}
+
+/// The table: addresses count from the end by last mention.
+pub fn table(assembly: &[Record]) -> [u8; 64] {
+    let mut table = [0; 64];
+    let mut n = 0;
+    for name in assembly.iter().rev().filter_map(|record| record.name()) {
+        if table[name] == 0 {
+            n += 1;
+            table[name] = n;
+        }
+    }
+    table
+}
+
+pub fn bytes(records: &[Record], first: u8) -> Vec<u8> {
+    let mut bytes = Vec::new();
+    for record in records {
+        let (number, operand) = record.parts();
+        bytes.push(first + number);
+        bytes.extend(operand.to_le_bytes());
+    }
+    bytes
+}
+
+fn expression_depth(expression: &Expression) -> usize {
+    match expression {
+        Expression::Plus(left, right) => expression_depth(left).max(expression_depth(right) + 1),
+        _ => 1,
+    }
+}
+
+fn condition_depth(condition: &Condition) -> usize {
+    match condition {
+        Condition::Bc(_) => 0,
+        Condition::Not(part) => condition_depth(part),
+        Condition::And(left, right) => condition_depth(left).max(condition_depth(right)),
+        Condition::Less(left, right) => expression_depth(left).max(expression_depth(right) + 1),
+    }
+}
+
+pub fn depth(command: &Command) -> usize {
+    match command {
+        Command::Skip => 0,
+        Command::Assign(_, expression) => expression_depth(expression),
+        Command::Sequence(first, second) => depth(first).max(depth(second)),
+        Command::If(condition, first, second) => condition_depth(condition).max(depth(first)).max(depth(second)),
+        Command::While(condition, body) => condition_depth(condition).max(depth(body)),
+    }
+}
+
+/// Record count, D and n.
+pub type Sizes = (usize, usize, usize);
+
+fn sizes(command: &Command) -> Sizes {
+    let assembly = ccomp(command);
+    (assembly.len(), depth(command), named(&table(&assembly)))
+}
+
+pub fn read(text: &[u8]) -> Result<Sizes, Refusal> {
+    read_text(text).map(|command| sizes(&command))
+}
+
+pub fn assemble(text: &[u8], out: &mut [u8]) -> Result<Sizes, Refusal> {
+    let command = read_text(text)?;
+    write(&bytes(&ccomp(&command), 0x40), out)?;
+    Ok(sizes(&command))
+}
+
+pub fn compile(text: &[u8], out: &mut [u8], lent: &mut [u8]) -> Result<Sizes, Refusal> {
+    let command = read_text(text)?;
+    if lent.len() != 64 {
+        return Err(Refusal(8, 0));
+    }
+    let assembly = ccomp(&command);
+    let table = table(&assembly);
+    let machine: Vec<Record> = assembly.iter().map(|record| record.renamed(|v| table[v] as usize)).collect();
+    write(&bytes(&machine, 0x50), out)?;
+    lent.copy_from_slice(&table);
+    Ok(sizes(&command))
+}
+
+/// Bytes after the last record keep their values; an output that is too short is refused.
+fn write(bytes: &[u8], out: &mut [u8]) -> Result<(), Refusal> {
+    if out.len() < bytes.len() {
+        return Err(Refusal(7, 0));
+    }
+    out[..bytes.len()].copy_from_slice(bytes);
+    Ok(())
+}
+
+// ---- The tests of code and tables
+
+fn whole(code: &[u8]) -> Result<(), Refusal> {
+    if code.len() % 5 != 0 || code.len() / 5 > 4096 {
+        return Err(Refusal(9, 0));
+    }
+    Ok(())
+}
+
+/// The records of code whose first byte and names are these; 10 at the first that is none.
+fn records(code: &[u8], first: u8, names: std::ops::RangeInclusive<u64>) -> Result<Vec<Record>, Refusal> {
+    code.chunks(5)
+        .enumerate()
+        .map(|(index, bytes)| {
+            let operand = i32::from_le_bytes(bytes[1..].try_into().unwrap());
+            let named = || {
+                let name = u64::try_from(operand).ok().filter(|name| names.contains(name));
+                name.map(|name| name as usize).ok_or(Refusal(10, index))
+            };
+            match bytes[0].wrapping_sub(first) {
+                0 => Ok(Loadi(operand)),
+                1 => named().map(Load),
+                2 if operand == 0 => Ok(Add),
+                3 => named().map(Store),
+                4 => Ok(Jmp(operand)),
+                5 => Ok(Jmpless(operand)),
+                6 => Ok(Jmpge(operand)),
+                _ => Err(Refusal(10, index)),
+            }
+        })
+        .collect()
+}
+
+/// How many variables a table names.
+fn named(table: &[u8]) -> usize {
+    table.iter().filter(|&&entry| entry != 0).count()
+}
+
+/// 12: the nonzero entries are 1 to n, once each.
+fn tested(table: &[u8]) -> Result<usize, Refusal> {
+    let mut entries: Vec<usize> = table.iter().filter(|&&entry| entry != 0).map(|&entry| entry as usize).collect();
+    entries.sort();
+    if entries.iter().copied().eq(1..=entries.len()) {
+        Ok(entries.len())
+    } else {
+        Err(Refusal(12, 0))
+    }
+}
+
+// ---- Executors
+
+/// What a machine does with its memory: a name's cell, and the cell of a stack slot counted from the bottom.
+trait Memory {
+    fn named(&mut self, name: usize) -> &mut i32;
+    fn slot(&mut self, slot: usize) -> &mut i32;
+}
+
+struct AssemblyMemory<'a> {
+    store: &'a mut [i32],
+    stack: &'a mut [i32],
+}
+
+impl Memory for AssemblyMemory<'_> {
+    fn named(&mut self, name: usize) -> &mut i32 {
+        &mut self.store[name]
+    }
+    fn slot(&mut self, slot: usize) -> &mut i32 {
+        &mut self.stack[slot]
+    }
+}
+
+/// Cell j is address j − D; the stack grows from −1 down.
+struct Cells<'a> {
+    cells: &'a mut [i32],
+    depth: usize,
+}
+
+impl Memory for Cells<'_> {
+    fn named(&mut self, name: usize) -> &mut i32 {
+        &mut self.cells[self.depth + name]
+    }
+    fn slot(&mut self, slot: usize) -> &mut i32 {
+        &mut self.cells[self.depth - 1 - slot]
+    }
+}
+
+fn run(code: &[Record], memory: &mut dyn Memory, depth: usize, budget: u32) -> (End, u32) {
+    let (mut position, mut size, mut count) = (0, 0, 0);
+    loop {
+        if position == code.len() {
+            return (End::Done, count);
+        }
+        if count == budget {
+            return (End::Spent, count);
+        }
+        count += 1;
+        let record = code[position];
+        let needs = match record {
+            Add | Jmpless(_) | Jmpge(_) => 2,
+            Store(_) => 1,
+            _ => 0,
+        };
+        if size < needs {
+            return (End::Short, count);
+        }
+        let pushed = match record {
+            Loadi(z) => Some(z),
+            Load(name) => Some(*memory.named(name)),
+            _ => None,
+        };
+        if let Some(z) = pushed {
+            if size == depth {
+                return (End::Full, count);
+            }
+            *memory.slot(size) = z;
+            (position, size) = (position + 1, size + 1);
+            continue;
+        }
+        let jump = match record {
+            Add => {
+                let Some(z) = memory.slot(size - 2).checked_add(*memory.slot(size - 1)) else {
+                    return (End::OutOfRange, count);
+                };
+                *memory.slot(size - 2) = z;
+                (position, size) = (position + 1, size - 1);
+                continue;
+            }
+            Store(name) => {
+                *memory.named(name) = *memory.slot(size - 1);
+                (position, size) = (position + 1, size - 1);
+                continue;
+            }
+            Jmp(i) => Some(i),
+            Jmpless(i) => (*memory.slot(size - 2) < *memory.slot(size - 1)).then_some(i),
+            Jmpge(i) => (*memory.slot(size - 2) >= *memory.slot(size - 1)).then_some(i),
+            Loadi(_) | Load(_) => unreachable!(),
+        };
+        let target = position as i64 + 1 + jump.map_or(0, i64::from);
+        if target < 0 || target > code.len() as i64 {
+            return (End::Astray, count);
+        }
+        (position, size) = (target as usize, size - needs);
+    }
+}
+
+pub fn run_assembly(code: &[u8], store: &mut [i32], stack: &mut [i32], budget: u32) -> Result<(End, u32), Refusal> {
+    whole(code)?;
+    if store.len() != 64 {
+        return Err(Refusal(8, 0));
+    }
+    let records = records(code, 0x40, 0..=63)?;
+    let depth = stack.len();
+    if depth > 64 {
+        return Err(Refusal(11, 0));
+    }
+    Ok(run(&records, &mut AssemblyMemory { store, stack }, depth, budget))
+}
+
+/// 11: D or n above 64, or a memory that has not D + 1 + n cells.
+fn fits(depth: u64, n: u64, memory: &[i32]) -> Result<(), Refusal> {
+    if depth > 64 || n > 64 || memory.len() as u64 != depth + 1 + n {
+        return Err(Refusal(11, 0));
+    }
+    Ok(())
+}
+
+pub fn run_machine(code: &[u8], memory: &mut [i32], depth: u64, n: u64, budget: u32) -> Result<(End, u32), Refusal> {
+    whole(code)?;
+    let records = records(code, 0x50, 1..=n)?;
+    fits(depth, n, memory)?;
+    let depth = depth as usize;
+    Ok(run(&records, &mut Cells { cells: memory, depth }, depth, budget))
+}
+
+// ---- Loading, reading back, going back
+
+fn loadable(table: &[u8], store: &[i32], depth: u64, memory: &[i32]) -> Result<usize, Refusal> {
+    if table.len() != 64 || store.len() != 64 {
+        return Err(Refusal(8, 0));
+    }
+    let n = tested(table)?;
+    fits(depth, n as u64, memory)?;
+    Ok(n)
+}
+
+pub fn load(table: &[u8], store: &[i32], depth: u64, memory: &mut [i32]) -> Result<usize, Refusal> {
+    let n = loadable(table, store, depth, memory)?;
+    memory.fill(0);
+    for (v, &address) in table.iter().enumerate().filter(|(_, &address)| address != 0) {
+        memory[depth as usize + address as usize] = store[v];
+    }
+    Ok(n)
+}
+
+pub fn read_back(table: &[u8], memory: &[i32], depth: u64, store: &mut [i32]) -> Result<usize, Refusal> {
+    let n = loadable(table, store, depth, memory)?;
+    for (v, &address) in table.iter().enumerate().filter(|(_, &address)| address != 0) {
+        store[v] = memory[depth as usize + address as usize];
+    }
+    Ok(n)
+}
+
+pub fn go_back(code: &[u8], table: &[u8], out: &mut [u8]) -> Result<usize, Refusal> {
+    whole(code)?;
+    if table.len() != 64 {
+        return Err(Refusal(8, 0));
+    }
+    let n = tested(table)?;
+    let variable = |address: usize| table.iter().position(|&entry| entry as usize == address).unwrap();
+    let machine = records(code, 0x50, 1..=n as u64)?;
+    let assembly: Vec<Record> = machine.iter().map(|record| record.renamed(variable)).collect();
+    write(&bytes(&assembly, 0x40), out)?;
+    Ok(assembly.len())
+}
+
+// ---- The printing program
+
+fn spelled(record: Record, prefix: &str) -> String {
+    let name = ["LOADI", "LOAD", "ADD", "STORE", "JMP", "JMPLESS", "JMPGE"][record.parts().0 as usize];
+    match record {
+        Add => format!("{prefix}{name}"),
+        _ => format!("{prefix}{name} {}", record.parts().1),
+    }
+}
+
+/// What the program prints for a text on standard input.
+pub fn show(text: &[u8]) -> String {
+    let command = match read_text(text) {
+        Ok(command) => command,
+        Err(Refusal(number, place)) => return format!("refused {number} at {place}\n"),
+    };
+    let assembly = ccomp(&command);
+    let table = table(&assembly);
+    let mut out = format!("records {} stack {} cells {}\n", assembly.len(), depth(&command), named(&table));
+    for (position, &record) in assembly.iter().enumerate() {
+        let machine = record.renamed(|v| table[v] as usize);
+        writeln!(out, "{position} {} | {}", spelled(record, ""), spelled(machine, "M")).unwrap();
+    }
+    let mut store = [0; 64];
+    let (end, count) = run_source(text, &mut store, 1_000_000).unwrap();
+    let end = match end {
+        End::Done => "done",
+        End::Spent => "spent",
+        End::OutOfRange => "range",
+        other => panic!("a source run ended {other:?}"),
+    };
+    writeln!(out, "run {end} {count}").unwrap();
+    for (v, value) in store.iter().enumerate().filter(|(v, _)| table[*v] != 0) {
+        writeln!(out, "{v} {value}").unwrap();
+    }
+    out
+}
