@@ -1,7 +1,8 @@
-//! The calls of the proved libraries as safe Rust functions, and the vectors.
+//! The calls of the proved libraries as safe Rust functions, the vectors, and a simple interpreter to match them with.
 
 pub mod calls;
 pub mod generator;
 pub mod json;
+pub mod matching;
 pub mod model;
 pub mod vectors;

@@ -27,14 +27,54 @@ pub fn calls(name: &str) -> Vec<Call> {
     found
 }
 
+/// The texts of `vectors/texts`, each with the program's whole output.
+pub fn texts() -> Vec<(String, Vec<u8>, String)> {
+    let folder = concat!(env!("CARGO_MANIFEST_DIR"), "/vectors/texts");
+    let mut found = Vec::new();
+    for entry in std::fs::read_dir(folder).unwrap() {
+        let path = entry.unwrap().path();
+        if path.extension().is_some_and(|extension| extension == "text") {
+            let want = std::fs::read_to_string(path.with_extension("want")).unwrap();
+            found.push((path.display().to_string(), std::fs::read(&path).unwrap(), want));
+        }
+    }
+    assert!(found.len() >= 100, "{} texts", found.len());
+    found.sort();
+    found
+}
+
 impl Call {
     pub fn input(&self, name: &str) -> &Value {
         self.value.get("in").unwrap().get(name).unwrap()
     }
 
+    pub fn bytes(&self, name: &str) -> Vec<u8> {
+        self.input(name).bytes()
+    }
+
+    pub fn cells(&self, name: &str) -> Vec<i32> {
+        self.input(name).cells()
+    }
+
+    pub fn number(&self, name: &str) -> u64 {
+        self.input(name).number() as u64
+    }
+
+    pub fn budget(&self) -> u32 {
+        self.number("budget") as u32
+    }
+
     /// A lent buffer as the call leaves it: as `after` says, or as it was.
-    pub fn after(&self, name: &str) -> &Value {
+    fn after(&self, name: &str) -> &Value {
         self.value.get("after").and_then(|after| after.get(name)).unwrap_or_else(|| self.input(name))
+    }
+
+    pub fn bytes_after(&self, name: &str) -> Vec<u8> {
+        self.after(name).bytes()
+    }
+
+    pub fn cells_after(&self, name: &str) -> Vec<i32> {
+        self.after(name).cells()
     }
 
     fn output(&self, name: &str) -> i64 {
@@ -54,6 +94,11 @@ impl Call {
             depth: call.output("D") as u8,
             cells: call.output("n") as u8,
         })
+    }
+
+    /// The number that loading, reading back (`n`) or going back (`records`) gives.
+    pub fn count(&self, name: &str) -> Answer<usize> {
+        self.answer(|call| call.output(name) as usize)
     }
 
     pub fn ran(&self) -> Answer<Ran> {

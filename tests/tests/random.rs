@@ -2,9 +2,8 @@
 //!
 //! A failure names its seed. `PROFILE_SEED=N cargo test --test random -- --nocapture` reruns that one and shows its text.
 
-use profile_tests::calls::{self, Answer, End, Ran, Sizes};
 use profile_tests::generator::{self, Random};
-use profile_tests::model;
+use profile_tests::{calls, matching, model};
 
 const SEEDS: u64 = 4000;
 
@@ -21,33 +20,10 @@ fn for_each_seed(test: impl Fn(&[u8], &mut Random, &str)) {
     }
 }
 
-fn answer<T, U>(result: Result<T, model::Refusal>, given: impl Fn(T) -> U) -> Answer<U> {
-    match result {
-        Ok(value) => Answer::Gives(given(value)),
-        Err(model::Refusal(number, place)) => Answer::Refused { number, place: place as u32 },
-    }
-}
-
-fn sizes((records, depth, cells): model::Sizes) -> Sizes {
-    Sizes { records: records as u16, depth: depth as u8, cells: cells as u8 }
-}
-
-fn ran((end, count): (model::End, u32)) -> Ran {
-    let end = match end {
-        model::End::Done => End::Done,
-        model::End::Spent => End::Spent,
-        model::End::OutOfRange => End::OutOfRange,
-        model::End::Short => End::Short,
-        model::End::Full => End::Full,
-        model::End::Astray => End::Astray,
-    };
-    Ran { end, count }
-}
-
 #[test]
 fn read() {
     for_each_seed(|text, _, seed| {
-        assert_eq!(calls::read(text), answer(model::read(text), sizes), "{seed}");
+        assert_eq!(calls::read(text), matching::sizes(model::read(text)), "{seed}");
     });
 }
 
@@ -59,7 +35,7 @@ fn run_source() {
         let budget = random.budget();
         let (mut proved, mut simple) = (start.clone(), start);
         let got = calls::run_source(text, &mut proved, budget);
-        assert_eq!(got, answer(model::run_source(text, &mut simple, budget), ran), "{seed}");
+        assert_eq!(got, matching::ran(model::run_source(text, &mut simple, budget)), "{seed}");
         assert_eq!(proved, simple, "{seed}");
     });
 }

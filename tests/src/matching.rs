@@ -1,0 +1,37 @@
+//! The simple interpreter's answers in the form of the proved calls' answers.
+
+use crate::calls::{Answer, End, Ran, Sizes};
+use crate::model;
+
+pub fn answer<T, U>(result: Result<T, model::Refusal>, given: impl Fn(T) -> U) -> Answer<U> {
+    match result {
+        Ok(value) => Answer::Gives(given(value)),
+        Err(model::Refusal(number, place)) => Answer::Refused { number, place: place as u32 },
+    }
+}
+
+pub fn sizes(result: Result<model::Sizes, model::Refusal>) -> Answer<Sizes> {
+    answer(result, |(records, depth, cells)| Sizes {
+        records: records as u16,
+        depth: depth as u8,
+        cells: cells as u8,
+    })
+}
+
+pub fn count(result: Result<usize, model::Refusal>) -> Answer<usize> {
+    answer(result, |n| n)
+}
+
+pub fn ran(result: Result<(model::End, u32), model::Refusal>) -> Answer<Ran> {
+    answer(result, |(end, count)| {
+        let end = match end {
+            model::End::Done => End::Done,
+            model::End::Spent => End::Spent,
+            model::End::OutOfRange => End::OutOfRange,
+            model::End::Short => End::Short,
+            model::End::Full => End::Full,
+            model::End::Astray => End::Astray,
+        };
+        Ran { end, count }
+    })
+}
