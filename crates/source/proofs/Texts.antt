@@ -49,8 +49,7 @@ module _ (text : List ℕ) (c : Command) (read : read-text text ≡ gives c) (s 
       → (result-of (outcome budget) .end ≡ e) × (result-of (outcome budget) .leaves ≡ t)
   tells budget k e t h =
       let same : _≡_ {A = Answer Ran × Store} (telling budget (outcome budget))
-          (gives (record { end = e; count = k }), t) = sym (told budget) ∙ h in
-      (
+      (gives (record { end = e; count = k }), t) = sym (told budget) ∙ h in (
         ap (λ (r : Ran). r .end) (gives-one (report budget (result-of (outcome budget)))
             (record { end = e; count = k }) (ap (λ (x : Answer Ran × Store). x .0) same)),
         ap (λ (x : Answer Ran × Store). x .1) same,
