@@ -4,3 +4,4 @@ pub mod Simulation
 pub mod Demand3
 pub mod Counts
 pub mod Cases
+pub mod Exports

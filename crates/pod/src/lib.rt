@@ -1,4 +1,41 @@
-// The pod: loading, running, reading back.
+// The pod: loading, running, reading back; and what its C host calls.
+ghost use mathlib.Core.Path.{_≡_};
+ghost use Prim.Native.Nat.{_≤_};
+ghost use Rattle.base.specs.Answers.{gives, refused};
+ghost use Rattle.text.specs.Calls.{read-call};
+ghost use Rattle.pod.specs.Exports.{packed};
+use text::Reading;
 
 // The most cells of a memory: the stack, address 0, and the addresses 1 to 64.
 pub const MEMORY_CELLS: usize = 129;
+
+// ---- For the C host: answers packed in one number
+
+fn pack_refusal(number: u8, place: usize) -> u64
+    requires { ⌜ place ≤ 4096 ⌝ }
+    ensures { λ r. ⌜ r ≡ packed (refused number place) ⌝ }
+{
+    (number as u64) + 256 * (place as u64)
+}
+
+fn pack_sizes(records: usize, depth: usize, cells: usize) -> u64
+    requires { ⌜ (records ≤ 4096) × (depth ≤ 63) × (cells ≤ 64) ⌝ }
+    ensures { λ r. ⌜ r ≡ packed (gives (record { records = records; depth = depth; cells = cells })) ⌝ }
+{
+    256 * (records as u64) + 16777216 * (depth as u64) + 4294967296 * (cells as u64)
+}
+
+// Reads a text: its sizes, or its refusal. In C: uint64_t profile_read(const uint8_t *text, size_t length).
+#[no_mangle]
+pub extern "C" fn profile_read(text: &[u8]) -> u64
+    ensures { λ r. ⌜ r ≡ packed (read-call (now (text .entry))) ⌝ }
+{
+    match text::read(text) {
+        Reading::Refused { number, place } => pack_refusal(number, place),
+        Reading::Accepted {
+            records,
+            depth,
+            cells,
+        } => pack_sizes(records, depth, cells),
+    }
+}

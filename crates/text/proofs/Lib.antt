@@ -4,3 +4,8 @@ pub mod Standing
 pub mod Encoded
 pub mod Decoded
 pub mod Accepted
+pub mod Heads
+pub mod Parts
+pub mod Bounds
+pub mod Whole
+pub mod Ranges

@@ -1,6 +1,7 @@
 -- What is claimed of reading. The proof of the same spelling stands in proofs/.
 -- A text is accepted exactly when it is the encoding of a command within the limits, and it is then the encoding of
--- that command alone. Every text has exactly one answer: its command, or a refusal of 1 to 6 whose place is in the text.
+-- that command alone. Every text has exactly one answer: its command, or a refusal of 1 to 6 whose place is in the
+-- text.
 use mathlib.Core.Path.{_≡_}
 use mathlib.Core.Logic.{_⊎_, _↔_}
 use Prim.Native.Nat.{ℕ, _≤_}

@@ -1,0 +1,35 @@
+-- `value` meets its contract: at each return the tests that led there say what the operand is read as.
+use Prim.Native.Nat.{_+_}
+use native.Mathlib.Omega.{arith}
+use borrow.Author.Needs.{needs}
+use borrow.Author.Tests.{lt-leb, le-leb}
+use lib.ListN.{length}
+use Rattle.base.specs.Acts.{then′, give}
+use Rattle.text.specs.Reading.{there, due, pass, decline, operand}
+use Rattle.text.specs.Answers.{values}
+use Rattle.text.proofs.Parts.{marked-none, declines, tells}
+use Rattle.text.proofs.value.Statement.{statement}
+use Rattle.text.proofs.value.Tie as tie
+
+pub value-spec : {M : Type 1} → statement M
+unfolding operand there due pass decline then′ give
+value-spec =
+    tie.close
+    (tie.spec
+    (λ c m.
+    let a = c .before .before .args in
+    rw (lt-leb (a .at + 1) (length (a .text .now)) (omega arith)) (declines _ _ _ _ _))
+    (λ c. search needs)
+    (λ c m.
+    let a = c .before .before .before .before .args in
+    rw (le-leb (a .at + 1) (length (a .text .now)) (omega arith), lt-leb _ 1 (c .if2 .taken)) (declines _ _ _ _ _))
+    (λ c. search needs)
+    (λ c κs. search needs)
+    (λ c m.
+    let a = c .before .before .before .before .before .args in
+    rw (
+      le-leb (a .at + 1) (length (a .text .now)) (omega arith),
+      le-leb _ 1 (c .before .if2 .left),
+      c .value-records .ensures,
+    )
+    (tells (values (a .flag)) _ _ _ _ (marked-none m))))
