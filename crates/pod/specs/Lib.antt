@@ -1,7 +1,1 @@
-pub mod Loading
-pub mod Calls
-pub mod Simulation
-pub mod Demand3
-pub mod Counts
-pub mod Cases
 pub mod Exports

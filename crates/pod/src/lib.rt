@@ -1,4 +1,4 @@
-// The pod: loading, running, reading back; and what its C host calls.
+// What the pod's C host calls.
 ghost use mathlib.Core.Path.{_≡_};
 ghost use Prim.Native.Nat.{_≤_};
 ghost use Rattle.base.specs.Answers.{gives, refused};
@@ -6,10 +6,7 @@ ghost use Rattle.text.specs.Calls.{read-call};
 ghost use Rattle.pod.specs.Exports.{packed};
 use text::Reading;
 
-// The most cells of a memory: the stack, address 0, and the addresses 1 to 64.
-pub const MEMORY_CELLS: usize = 129;
-
-// ---- For the C host: answers packed in one number
+// ---- Answers packed in one number
 
 fn pack_refusal(number: u8, place: usize) -> u64
     requires { ⌜ place ≤ 4096 ⌝ }

@@ -15,8 +15,8 @@ use Rattle.record.specs.Records.{address}
 use Rattle.record.specs.declared.Variable.{Variable}
 use Rattle.machine.specs.Memories.{cells}
 use Rattle.compile.proofs.Entries.{Distinct}
-use Rattle.pod.specs.Simulation.{Laws}
-use Rattle.pod.specs.Loading.{put, fill, loaded, got, read-back}
+use Rattle.fitting.specs.Simulation.{Laws}
+use Rattle.fitting.specs.Loading.{put, fill, loaded, got, read-back}
 
 length-back : (t : List ℕ) (D : ℕ) (s m : List ℤ) → length (read-back t D s m) ≡ length s
 unfolding read-back

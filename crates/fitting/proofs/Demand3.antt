@@ -33,13 +33,13 @@ use Rattle.compile.specs.Table.{to-m-prog, table}
 use Rattle.compile.specs.Calls.{Compiled}
 use Rattle.compile.proofs.Sizes.{record-count}
 use Rattle.compile.proofs.Codes.{codes}
-use Rattle.pod.specs.Loading.{loaded}
-use Rattle.pod.specs.Calls.{four-calls}
-use Rattle.pod.specs.Simulation.{seen}
-use Rattle.pod.specs.Demand3.{Ready, MachineEnds, RulesEnd, Alike, Demand3, Fitted, AssemblyFitted}
-use Rattle.pod.proofs.Memories.{assembled, translated}
-use Rattle.pod.proofs.Counts.{ticked}
-use Rattle.pod.proofs.Rows.{in-a-row}
+use Rattle.fitting.specs.Loading.{loaded}
+use Rattle.fitting.specs.Calls.{four-calls}
+use Rattle.fitting.specs.Simulation.{seen}
+use Rattle.fitting.specs.Demand3.{Ready, MachineEnds, RulesEnd, Alike, Demand3, Fitted, AssemblyFitted}
+use Rattle.fitting.proofs.Memories.{assembled, translated}
+use Rattle.fitting.proofs.Counts.{ticked}
+use Rattle.fitting.proofs.Rows.{in-a-row}
 
 -- ---- The equality
 

@@ -14,9 +14,9 @@ use Rattle.machine.specs.Machine.{Machine, fresh, run}
 use Rattle.machine.specs.Memories.{Assembly, assembly}
 use Rattle.machine.proofs.Exact.{left-most, spent-all, enough, fewer}
 use Rattle.compile.specs.Compilation.{ccomp}
-use Rattle.pod.specs.Counts.{Steady, Ticks, Ticked}
-use Rattle.pod.specs.Simulation.{seen}
-use Rattle.pod.proofs.Memories.{assembled}
+use Rattle.fitting.specs.Counts.{Steady, Ticks, Ticked}
+use Rattle.fitting.specs.Simulation.{seen}
+use Rattle.fitting.proofs.Memories.{assembled}
 
 module _ (sum : SumRule) (steady : Steady sum) (c : Command) (s : Store) where
   -- an assembly memory that holds the store

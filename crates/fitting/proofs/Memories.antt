@@ -20,10 +20,10 @@ use Rattle.compile.specs.Table.{vars, addr-of, table}
 use Rattle.compile.proofs.Entries.{Distinct, table-small, table-distinct}
 use Rattle.compile.proofs.Naming.{placed}
 use Rattle.compile.proofs.Tables.{named-variables}
-use Rattle.pod.specs.Loading.{loaded, read-back}
-use Rattle.pod.specs.Simulation.{seen, Laws, Assembled, Translated}
-use Rattle.pod.proofs.Loading.{addressed, cells-laws, length-loaded, back-loaded}
-use Rattle.pod.proofs.Simulation.{simulated}
+use Rattle.fitting.specs.Loading.{loaded, read-back}
+use Rattle.fitting.specs.Simulation.{seen, Laws, Assembled, Translated}
+use Rattle.fitting.proofs.Loading.{addressed, cells-laws, length-loaded, back-loaded}
+use Rattle.fitting.proofs.Simulation.{simulated}
 
 assembly-laws : (D : ℕ) → Laws D assembly (λ m. m .store) (λ m. length (m .stack) ≡ D) (λ v. Unit {0})
 assembly-laws D = record {

@@ -18,8 +18,8 @@ use Rattle.record.specs.Records.{AssemblyCode, LOADI, LOAD, ADD, STORE, JMP, JM
 use Rattle.compile.specs.Compilation.{ccomp}
 use Rattle.compile.specs.Table.{table}
 use Rattle.compile.specs.Calls.{Compiled}
-use Rattle.pod.specs.Loading.{loaded}
-use Rattle.pod.specs.Calls.{four-calls}
+use Rattle.fitting.specs.Loading.{loaded}
+use Rattle.fitting.specs.Calls.{four-calls}
 
 -- A text and a budget; the assembly records; D; n; the addresses of x0, x1 and x2; and, starting from zeros, the end,
 -- the count and x0

@@ -30,9 +30,9 @@ use Rattle.machine.specs.Calls.{machine-tests, run-machine}
 use Rattle.compile.specs.Compilation.{acomp, bcomp, ccomp}
 use Rattle.compile.specs.Table.{member, once, vars, addr-of, entries, times, once-each}
 use Rattle.compile.specs.Calls.{compile-tests, compile}
-use Rattle.pod.specs.Loading.{put, fill, got, read-back}
-use Rattle.pod.specs.Calls.{pod-tests, load, read-back-call, four-calls}
-use Rattle.pod.specs.Cases.{cases, measured, by-rules, by-machine, Profiles, Forever, MemoryOfI}
+use Rattle.fitting.specs.Loading.{put, fill, got, read-back}
+use Rattle.fitting.specs.Calls.{pod-tests, load, read-back-call, four-calls}
+use Rattle.fitting.specs.Cases.{cases, measured, by-rules, by-machine, Profiles, Forever, MemoryOfI}
 
 pub memory-of-I : MemoryOfI
 unfolding put fill

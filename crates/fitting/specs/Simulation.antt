@@ -18,7 +18,7 @@ use Rattle.machine.specs.Machine.{Memory, Machine, fresh, run}
 use Rattle.machine.specs.Memories.{Assembly, assembly, cells as machine-cells}
 use Rattle.compile.specs.Compilation.{ccomp}
 use Rattle.compile.specs.Table.{to-m-prog, table}
-use Rattle.pod.specs.Loading.{loaded, read-back}
+use Rattle.fitting.specs.Loading.{loaded, read-back}
 
 -- A machine's result as a result with the store that `view` sees in its memory
 abbrev pub seen : {M : Type 0} → (M → Store) → Result (Machine M) → Result Store

@@ -22,8 +22,8 @@ use Rattle.record.specs.Bytes.{assembly-kind, code-bytes}
 use Rattle.compile.specs.Compilation.{ccomp}
 use Rattle.compile.specs.Table.{to-m-prog, table}
 use Rattle.compile.specs.Calls.{Compiled}
-use Rattle.pod.specs.Loading.{loaded}
-use Rattle.pod.specs.Calls.{four-calls}
+use Rattle.fitting.specs.Loading.{loaded}
+use Rattle.fitting.specs.Calls.{four-calls}
 
 -- "Lengths as this paper asks"
 pub record Ready (c : Command) (lent : Compiled) (memory : List ℤ) (store : Store) : Type 0 where

@@ -11,7 +11,7 @@ use Rattle.source.specs.Rules.{Store}
 use Rattle.machine.specs.Calls.{memory-fits, run-machine}
 use Rattle.compile.specs.Table.{named-in, is-table}
 use Rattle.compile.specs.Calls.{Compiled, compile}
-use Rattle.pod.specs.Loading.{loaded, read-back}
+use Rattle.fitting.specs.Loading.{loaded, read-back}
 
 -- Refusals of both: 8 ("store not 64 cells, or table not 64 bytes"), 12, 11. n is the table's
 unfoldable pub pod-tests : List ℕ → Store → ℕ → List ℤ → Answer ℕ

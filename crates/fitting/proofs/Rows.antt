@@ -30,10 +30,10 @@ use Rattle.compile.specs.Calls.{machine-bytes, Compiled, compile}
 use Rattle.compile.proofs.Tables.{tables, named-variables}
 use Rattle.compile.proofs.Codes.{codes}
 use Rattle.compile.proofs.Calls.{compiled, machine-count, machine-length, taken-over}
-use Rattle.pod.specs.Loading.{loaded, read-back}
-use Rattle.pod.specs.Calls.{pod-tests, load, read-back-call, four-calls}
-use Rattle.pod.specs.Demand3.{Ready}
-use Rattle.pod.proofs.Loading.{length-loaded}
+use Rattle.fitting.specs.Loading.{loaded, read-back}
+use Rattle.fitting.specs.Calls.{pod-tests, load, read-back-call, four-calls}
+use Rattle.fitting.specs.Demand3.{Ready}
+use Rattle.fitting.proofs.Loading.{length-loaded}
 
 module _ (text : List ℕ) (c : Command) (read : read-text text ≡ gives c) (w : Within c)
     (lent : Compiled) (memory : List ℤ) (store : Store) (ready : Ready c lent memory store) (budget : ℕ) where

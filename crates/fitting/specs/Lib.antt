@@ -1,0 +1,6 @@
+pub mod Loading
+pub mod Calls
+pub mod Simulation
+pub mod Demand3
+pub mod Counts
+pub mod Cases
