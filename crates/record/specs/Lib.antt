@@ -1,3 +1,4 @@
 pub mod Records
 pub mod Bytes
 pub mod Claims
+pub mod Answers

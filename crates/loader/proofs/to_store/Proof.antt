@@ -1,0 +1,72 @@
+-- `to_store` takes each named variable from its address: a sweep to the store that is read back.
+use mathlib.Core.Path.{sym, subst, _∙_}
+use mathlib.Core.List.{List}
+use mathlib.Core.Logic.{⊎-elim}
+use Prim.Native.Nat.{_+_, _-_, _<_}
+use native.Mathlib.Omega.{arith}
+use lib.IntN.{ℤ, pos}
+use lib.ListN.{length}
+use mir.Syntax.{w32}
+use mir.Facts.{toZ-ofZ}
+use borrow.Author.Needs.{needs}
+use Rattle.fitting.specs.Loading.{read-back}
+use Rattle.table.proofs.Sweep.{Swept, swept-start, swept-set, swept-kept, swept-end}
+use Rattle.loader.proofs.Cells.{length-back, keeps, takes}
+use Rattle.loader.proofs.to_store.Statement.{statement}
+use Rattle.loader.proofs.to_store.Tie as tie
+
+abbrev Inv-loop : tie.InvT-loop
+Inv-loop table memory depth store₀ v₀ store v = Swept (pos 0) store₀ (read-back table depth store₀ memory) store v
+
+abbrev μ-loop : tie.MeasureT-loop
+μ-loop table memory depth store₀ v₀ store v = 64 - v
+
+-- The variable's address is a cell of the memory
+inside : tie.Need-shared-slice-copy-out-store Inv-loop μ-loop
+inside c =
+    let l = c .before .before .before in
+    omega (arith, c .before .address-of .ensures .0, l .before .before .pre .inside (l .loop .v))
+
+loop-again : tie.Need-loop-again Inv-loop μ-loop
+loop-again c =
+    let l = c .before .before .before in
+    let s = l .before .before in
+    let t = s .args .table .now in
+    let old = s .args .store .now in
+    let m = s .args .memory .now in
+    let a = c .before .address-of .ensures .0 in
+    let h : l .loop .v < length old = omega (arith, s .pre .variables, c .before .before .loop-test .taken) in
+    let next : List ℤ → Type 0 = λ x. Swept (pos 0) old (read-back t (s .args .depth) old m) x (l .loop .v + 1) in
+    ⊎-elim
+    (λ w. subst next (sym (w .2))
+    (swept-set (l .loop .inv) h
+    (toZ-ofZ {w = w32} (record { sfits = w .1 .given })
+    ∙ takes t (s .args .depth) old m (l .loop .v) h a (λ none. omega (arith, w .0 .taken)))))
+    (λ w. subst next (sym (w .1))
+    (swept-kept (l .loop .inv) (keeps t (s .args .depth) old m (l .loop .v) h (omega (arith, a, w .0 .left)))))
+    (c .if1 .came)
+
+returns : tie.Need-returns Inv-loop μ-loop
+returns c =
+    let l = c .before in
+    let s = l .before .before in
+    swept-end (l .loop .inv)
+    (omega (arith, s .pre .variables, c .loop-test .left))
+    (length-back (s .args .table .now) (s .args .depth) (s .args .store .now) (s .args .memory .now))
+
+pub to-store-spec : {M : Type 1} → statement M
+to-store-spec =
+    tie.close (tie.spec Inv-loop μ-loop
+    (λ c. swept-start)
+    (λ c κs. omega (arith, c .before .before .before .pre .entries, c .loop-test .taken))
+    (λ c. omega (arith, inside c))
+    (λ c. search needs)
+    inside
+    (λ c. search needs)
+    (λ c. let l = c .before .before .before .before in
+    omega (arith, l .loop .inv .long, l .before .before .pre .variables, c .before .before .before .loop-test .taken))
+    (λ c. search needs)
+    (λ c. search needs)
+    loop-again
+    (λ c. c .before .loop .inv .long)
+    returns)

@@ -1,0 +1,49 @@
+-- What the answer of a call says of its tests, and the other way: a call that gives has passed each test, one after the
+-- other, and leaves what it writes; one that declines leaves its buffers untouched.
+use mathlib.Core.Path.{_≡_, refl}
+use mathlib.Core.Bool.{Bool, true, false, _&&_}
+use Prim.Native.Nat.{ℕ}
+use native.Mathlib.Omega.{arith}
+use Rattle.base.specs.Answers.{Answer, gives, refused, unless_refuse_at_else_, and-then, settle}
+
+-- What is refused is not given.
+not-both : {A P : Type 0} {a : A} {number place : ℕ} → refused number place ≡ gives a → P
+not-both e = let no : _≡_ {A = ℕ} 0 1 = cc in absurd (omega arith)
+
+-- ---- Tests that gave something were passed
+
+-- A test in front of the others
+pub unless-passed : {A : Type 0} {a : A} (b : Bool) (number place : ℕ) (rest : Answer A)
+    → (unless b refuse number at place else rest) ≡ gives a → (b ≡ true) × (rest ≡ gives a)
+unless-passed true number place rest e = (refl, e)
+unless-passed false number place rest e = not-both e
+
+-- What the others needed
+pub record Needed {A B : Type 0} (first : Answer A) (rest : A → Answer B) (b : B) : Type 0 where
+  pub value : A
+  pub given : first ≡ gives value
+  pub then-gives : rest value ≡ gives b
+
+pub needed : {A B : Type 0} {b : B} (first : Answer A) (rest : A → Answer B) → and-then first rest ≡ gives b
+    → Needed first rest b
+unfolding and-then
+needed (gives a) rest e = record { value = a; given = refl; then-gives = e }
+needed (refused number place) rest e = not-both e
+
+-- Both of two tests
+pub both : (a b : Bool) → (a && b) ≡ true → (a ≡ true) × (b ≡ true)
+both true b e = (refl, e)
+both false b e = let no : _≡_ {A = ℕ} 0 1 = cc in absurd (omega arith)
+
+-- ---- A call, by what its tests gave
+
+module _ {A R B : Type 0} (tests : Answer A) (result : A → R) (buffers : A → B) (old : B) where
+  pub settled : {a : A} {now : B} → tests ≡ gives a → now ≡ buffers a
+      → (gives (result a), now) ≡ settle tests result buffers old
+  unfolding settle
+  settled e f = rw (e, f)
+
+  pub declined : {number place : ℕ} → tests ≡ refused number place
+      → (refused number place, old) ≡ settle tests result buffers old
+  unfolding settle
+  declined e = rw e

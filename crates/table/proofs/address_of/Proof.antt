@@ -1,0 +1,13 @@
+-- `address_of` is the variable's entry in the table, a byte.
+use mathlib.Core.Path.{refl}
+use native.Mathlib.Omega.{arith}
+use borrow.Author.Needs.{needs}
+use Rattle.table.proofs.address_of.Statement.{statement}
+use Rattle.table.proofs.address_of.Tie as tie
+
+pub address-of-spec : {M : Type 1} → statement M
+address-of-spec =
+    tie.close (tie.spec
+    (λ c. search needs)
+    (λ c. omega (arith, c .shared-slice-known .given (c .before .args .variable .0)))
+    (λ c. (refl, c .shared-slice-known .given (c .before .args .variable .0) .fits)))

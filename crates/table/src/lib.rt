@@ -1,0 +1,68 @@
+// The test of a table that is read, and the answer of the calls that read one.
+use record::Address;
+use record::Variable;
+ghost use mathlib.Core.Path.{_≡_};
+ghost use Prim.Native.Nat.{_<_};
+ghost use lib.ListN.{length, getD};
+ghost use Rattle.base.specs.Answers.{refused};
+ghost use Rattle.compile.specs.Table.{times};
+ghost use Rattle.table.specs.Counts.{answer};
+ghost use Rattle.table.specs.Tested.{tested};
+
+// What the test of a table finds: how many variables it names, or that it is no table.
+pub enum Named {
+    Cells(usize),
+    NoTable,
+}
+
+// What a call answers that gives a count: the count, or a refusal's number and place.
+pub enum Count {
+    Gives(usize),
+    Refused { number: u8, place: usize },
+}
+
+// A refusal at place 0.
+pub fn decline(number: u8) -> Count
+    ensures { λ r. ⌜ answer r ≡ refused number 0 ⌝ }
+{
+    Count::Refused { number, place: 0 }
+}
+
+// The address that a table gives to a variable, 0 if it is unnamed.
+pub fn address_of(table: &[u8], variable: Variable) -> Address
+    requires { ⌜ variable .0 < length (now table) ⌝ }
+    ensures { λ r. ⌜ (r .0 ≡ getD (now (table .entry)) (variable .0) 0) × (r .0 < 256) ⌝ }
+{
+    let v = variable.0;
+    Address(table[v] as usize)
+}
+
+// How often an entry stands in a table.
+fn how_often(table: &[u8], entry: usize) -> usize
+    ensures { λ r. ⌜ r ≡ times entry (now (table .entry)) ⌝ }
+{
+    let mut found = 0;
+    let mut v = 0;
+    while v < table.len() {
+        if (table[v] as usize) == entry {
+            found += 1;
+        }
+        v += 1;
+    }
+    found
+}
+
+// How many variables a table names, if its nonzero entries are 1 to that number, once each.
+pub fn names(table: &[u8]) -> Named
+    ensures { λ r. ⌜ r ≡ tested (now (table .entry)) ⌝ }
+{
+    let n = table.len() - how_often(table, 0);
+    let mut a = 0;
+    while a < n {
+        a += 1;
+        if how_often(table, a) != 1 {
+            return Named::NoTable;
+        }
+    }
+    Named::Cells(n)
+}

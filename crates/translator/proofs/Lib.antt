@@ -1,0 +1,12 @@
+pub mod Finding
+pub mod Renaming
+pub mod Standing
+pub mod Rows
+pub mod Mentions
+pub mod Numbering
+pub mod Numbers
+pub mod Translating
+pub mod Read
+pub mod Tests
+pub mod GoingBack
+pub mod Compiling
