@@ -27,7 +27,7 @@ profile-read-spec =
     rw (← r .read .ensures, x .records .given .1) at (in-range text bytes))
     (λ c.
     let x = c .before .before in
-    rw (← x .before .before .read .ensures, x .number .given .1) (c .pack-refusal .ensures))
+    rw (← x .before .before .read .ensures, x .number .given .1) (c .pack-refusal .ensures .0))
     (λ c.
     let x = c .before .before in
     rw (← x .before .before .read .ensures, x .records .given .1) (c .pack-sizes .ensures)))
