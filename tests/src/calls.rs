@@ -4,6 +4,14 @@
 mod exported {
     extern "C" {
         pub fn profile_read(text: *const u8, text_len: usize) -> u64;
+        pub fn profile_go_back(
+            code: *const u8,
+            code_len: usize,
+            table: *const u8,
+            table_len: usize,
+            out: *mut u8,
+            out_len: usize,
+        ) -> u64;
         pub fn probe_run_source(text: *const u8, text_len: usize, store: *mut i32, store_len: usize, budget: u32)
             -> u64;
     }
@@ -70,6 +78,23 @@ fn ran(packed: u64) -> Ran {
 
 pub fn read(text: &[u8]) -> Answer<Sizes> {
     answer(unsafe { exported::profile_read(text.as_ptr(), text.len()) }, sizes)
+}
+
+pub fn go_back(code: &[u8], table: &[u8], out: &mut [u8]) -> Answer<usize> {
+    let packed = unsafe {
+        exported::profile_go_back(
+            code.as_ptr(),
+            code.len(),
+            table.as_ptr(),
+            table.len(),
+            out.as_mut_ptr(),
+            out.len(),
+        )
+    };
+    answer(packed, |packed| {
+        assert_eq!(packed >> 24, 0, "bits above the packing: {packed:#x}");
+        (packed >> 8) as usize
+    })
 }
 
 pub fn run_source(text: &[u8], store: &mut [i32], budget: u32) -> Answer<Ran> {

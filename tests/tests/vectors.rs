@@ -18,3 +18,13 @@ fn run_source() {
         assert_eq!(store, call.cells_after("store"), "line {}", call.line);
     }
 }
+
+#[test]
+fn go_back() {
+    for call in vectors::calls("go_back") {
+        let mut out = call.bytes("out");
+        let got = calls::go_back(&call.bytes("code"), &call.bytes("table"), &mut out);
+        assert_eq!(got, call.count("records"), "line {}", call.line);
+        assert_eq!(out, call.bytes_after("out"), "line {}", call.line);
+    }
+}

@@ -34,12 +34,13 @@ use Rattle.compile.specs.Calls.{Compiled}
 use Rattle.compile.proofs.Sizes.{record-count}
 use Rattle.compile.proofs.Codes.{codes}
 use Rattle.fitting.specs.Loading.{loaded}
-use Rattle.fitting.specs.Calls.{four-calls}
+use Rattle.fitting.specs.Calls.{four-calls, Lent}
 use Rattle.fitting.specs.Simulation.{seen}
 use Rattle.fitting.specs.Demand3.{Ready, MachineEnds, RulesEnd, Alike, Demand3, Fitted, AssemblyFitted}
+use Rattle.fitting.specs.Demand3.{RowsFitted}
 use Rattle.fitting.proofs.Memories.{assembled, translated}
 use Rattle.fitting.proofs.Counts.{ticked}
-use Rattle.fitting.proofs.Rows.{in-a-row}
+use Rattle.fitting.proofs.Rows.{same-length, in-a-row, whole-row}
 
 -- ---- The equality
 
@@ -133,6 +134,26 @@ demand3 text bytes c read lent memory store ready budget =
       stack = λ steps.
           inside sum32 D (machine-cells D) (to-m-prog (ccomp c)) steps
           (loaded (table (ccomp c)) D (cells c) store) .1;
+    }
+
+-- ---- Every lent buffer
+
+pub rows-fitted : RowsFitted
+rows-fitted text bytes c read l ready budget =
+    let lent : Compiled = record { code = l .code; table = l .table } in
+    let w : Within c = accepted text bytes c .0 read .0 in
+    let row = whole-row text c read w lent (l .memory) (l .store) ready budget in
+    let same = translated sum32 c (w .valid) (l .store) (ready .store-cells) budget in
+    record {
+      same-run =
+          source-runs text c (l .store) budget read (ready .store-cells)
+          ∙ ap (λ (r : Result Store). (gives (report budget r), r .leaves)) (sym same)
+          ∙ ap (λ (x : Answer Ran × Lent). (x .0, x .1 .store)) (sym row);
+      same-code = ap (λ (x : Answer Ran × Lent). x .1 .code) row;
+      same-table = ap (λ (x : Answer Ran × Lent). x .1 .table) row;
+      same-length =
+          ap (λ (x : Answer Ran × Lent). length (x .1 .memory)) row
+          ∙ same-length text c read w lent (l .memory) (l .store) ready budget ∙ sym (ready .memory-cells);
     }
 
 -- ---- Assembly

@@ -31,7 +31,8 @@ use Rattle.compile.proofs.Tables.{tables, named-variables}
 use Rattle.compile.proofs.Codes.{codes}
 use Rattle.compile.proofs.Calls.{compiled, machine-count, machine-length, taken-over}
 use Rattle.fitting.specs.Loading.{loaded, read-back}
-use Rattle.fitting.specs.Calls.{pod-tests, load, read-back-call, four-calls}
+use Rattle.fitting.specs.Calls.{pod-tests, load, read-back-call, four-calls, Lent, after-reading, after-running}
+use Rattle.fitting.specs.Calls.{after-loading, after-compiling, fit}
 use Rattle.fitting.specs.Demand3.{Ready}
 use Rattle.fitting.proofs.Loading.{length-loaded}
 
@@ -89,7 +90,7 @@ module _ (text : List ℕ) (c : Command) (read : read-text text ≡ gives c) (w 
   )
 
   -- a run keeps the memory's length
-  same-length : length (ran .leaves .memory) ≡ D + 1 + n
+  pub same-length : length (ran .leaves .memory) ≡ D + 1 + n
   same-length =
       kept sum32 D (machine-cells D) P (λ m. length m ≡ D + 1 + n)
       (record { saved = λ m a z h. length-set m _ z ∙ h; poked = λ m i z l h. length-set m _ z ∙ h })
@@ -125,3 +126,28 @@ module _ (text : List ℕ) (c : Command) (read : read-text text ≡ gives c) (w 
       (taken-over (machine-bytes c) (lent .code) (5 * records c) (machine-length c))
       ∙ ap (after-run (sizes c) t) runs
       ∙ ap (λ (reading : Answer ℕ × Store). and-then (reading .0) (λ _. gives (report budget ran, reading .1))) reads
+
+  -- ---- and with every lent buffer
+  abbrev lent-all : Lent
+  lent-all = record { code = lent .code; table = lent .table; memory = memory; store = store }
+
+  abbrev left-all : Lent
+  left-all = record {
+    code = over (machine-bytes c) (lent .code);
+    table = t;
+    memory = ran .leaves .memory;
+    store = read-back t D store (ran .leaves .memory);
+  }
+
+  abbrev with-memory : List ℤ → Lent
+  with-memory m = record { code = over (machine-bytes c) (lent .code); table = t; memory = m; store = store }
+
+  pub whole-row : fit text lent-all budget ≡ (gives (report budget ran), left-all)
+  unfolding fit after-compiling after-loading after-running after-reading
+  whole-row =
+      ap (after-compiling lent-all budget) (compiled text lent read (ready .table-bytes) (ready .output))
+      ∙ ap (after-loading (with-memory memory) (sizes c) budget) loads
+      ∙ ap (λ code. after-running (with-memory ready-memory) (sizes c) (run-machine code ready-memory D n budget))
+      (taken-over (machine-bytes c) (lent .code) (5 * records c) (machine-length c))
+      ∙ ap (after-running (with-memory ready-memory) (sizes c)) runs
+      ∙ ap (after-reading (with-memory (ran .leaves .memory)) (report budget ran)) reads

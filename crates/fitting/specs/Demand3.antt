@@ -18,12 +18,12 @@ use Rattle.source.specs.Rules.{Store}
 use Rattle.source.specs.Calls.{run-source}
 use Rattle.machine.specs.Memories.{Assembly}
 use Rattle.machine.specs.Calls.{machine-run, run-assembly}
-use Rattle.record.specs.Bytes.{assembly-kind, code-bytes}
+use Rattle.record.specs.Bytes.{assembly-kind, code-bytes, over}
 use Rattle.compile.specs.Compilation.{ccomp}
 use Rattle.compile.specs.Table.{to-m-prog, table}
-use Rattle.compile.specs.Calls.{Compiled}
+use Rattle.compile.specs.Calls.{machine-bytes, Compiled}
 use Rattle.fitting.specs.Loading.{loaded}
-use Rattle.fitting.specs.Calls.{four-calls}
+use Rattle.fitting.specs.Calls.{four-calls, Lent, fit}
 
 -- "Lengths as this paper asks"
 pub record Ready (c : Command) (lent : Compiled) (memory : List ℤ) (store : Store) : Type 0 where
@@ -83,3 +83,16 @@ AssemblyFitted = (text : List ℕ) → Bytes text → (c : Command) → read-tex
     → (m : Assembly) → length (m .stack) ≡ depth c → length (m .store) ≡ 64 → (budget : ℕ)
     → let r = run-assembly (code-bytes assembly-kind (ccomp c)) m budget in
     run-source text (m .store) budget ≡ (r .0, r .1 .store)
+
+-- Demand 3 with every lent buffer: the four calls in a row give what the source run gives, and leave the store that it
+-- leaves, the code and the table that compiling leaves, and a memory of the same length.
+pub record RowFitted (text : List ℕ) (c : Command) (l : Lent) (budget : ℕ) : Type 0 where
+  pub same-run : run-source text (l .store) budget ≡ (fit text l budget .0, fit text l budget .1 .store)
+  pub same-code : fit text l budget .1 .code ≡ over (machine-bytes c) (l .code)
+  pub same-table : fit text l budget .1 .table ≡ table (ccomp c)
+  pub same-length : length (fit text l budget .1 .memory) ≡ length (l .memory)
+
+abbrev pub RowsFitted : Type 0
+RowsFitted = (text : List ℕ) → Bytes text → (c : Command) → read-text text ≡ gives c
+    → (l : Lent) → Ready c (record { code = l .code; table = l .table }) (l .memory) (l .store)
+    → (budget : ℕ) → RowFitted text c l budget
