@@ -1,3 +1,4 @@
 pub mod Numbers
 pub mod Printing
+pub mod Answers
 pub mod Cases

@@ -1,0 +1,196 @@
+-- A record's text from its bytes: the text of the record that they are, and at most 19 bytes; a line is at most 48. By
+-- cases on what the first byte stands for.
+use mathlib.Core.Path.{_≡_, refl, sym, ap, ap₂, _∙_}
+use mathlib.Core.Bool.{Bool, true, false}
+use mathlib.Core.List.{List, _∷_, _++_, append-nil}
+use mathlib.Core.Option.{none, some}
+use Prim.Native.Nat.{ℕ, zero, suc, _+_, _*_, _<_, _≤_}
+use native.Mathlib.Nat.{zero-add, suc-add, add-zero}
+use native.Mathlib.Omega.{arith}
+use lib.Dec.{eqb, eqb·suc-suc}
+use lib.IntN.{ℤ, pos, negsuc}
+use lib.ListN.{length, getD, length-append}
+use borrow.Author.Tests.{ne-eqb}
+use Rattle.base.specs.Acts.{if_then_else_}
+use Rattle.word.specs.Numbers.{number-at}
+use Rattle.record.specs.Records.{Record, LOADI, LOAD, ADD, STORE, JMP, JMPLESS, JMPGE}
+use Rattle.record.specs.Bytes.{Kind, operand, Operation, loadi, load, add, store, jmp, jmpless, jmpge, unknown}
+use Rattle.record.specs.Bytes.{operation, name-of, option-map, is-zero, record-of, record-at}
+use Rattle.printer.specs.Numbers.{signed}
+use Rattle.printer.specs.Printing.{name-text, operand-text, record-text}
+use Rattle.printer.specs.Answers.{operation-name, operation-operand, text-at, line-at, Puts}
+use Rattle.printer.proofs.Puts.{puts-is}
+use Rattle.printer.proofs.Decimals.{signed-length, decimal-below-10000}
+
+-- ---- What a byte stands for
+
+-- Two numbers above the same one are equal where what is added is,
+above : (first i j : ℕ) → eqb (first + i) (first + j) ≡ eqb i j
+above zero i j = ap₂ eqb (zero-add i) (zero-add j)
+above (suc first) i j =
+    ap₂ eqb (suc-add first i) (suc-add first j) ∙ eqb·suc-suc (first + i) (first + j) ∙ above first i j
+
+above-first : (first i : ℕ) → eqb (first + i) first ≡ eqb i 0
+above-first first i = ap (eqb (first + i)) (sym (add-zero first)) ∙ above first i 0
+
+-- so a byte stands for what its number above the first stands for,
+pub by-number : (first byte j : ℕ) → byte ≡ first + j → operation first byte ≡ operation 0 j
+unfolding operation
+by-number first byte j e = rw e (simp (above, above-first))
+
+-- and has its name;
+pub named : (first byte j : ℕ) {at : ℕ} {old later : List ℕ} {next : ℕ}
+    → Puts (operation-name (operation 0 j)) at old later next → byte ≡ first + j
+    → Puts (operation-name (operation first byte)) at old later next
+named first byte j p e = puts-is p (ap operation-name (by-number first byte j e)) refl
+
+-- any other byte stands for nothing.
+pub by-none : (first byte : ℕ) → (byte ≡ first → ⊥) → (byte ≡ first + 1 → ⊥) → (byte ≡ first + 2 → ⊥)
+    → (byte ≡ first + 3 → ⊥) → (byte ≡ first + 4 → ⊥) → (byte ≡ first + 5 → ⊥) → (byte ≡ first + 6 → ⊥)
+    → operation first byte ≡ unknown
+unfolding operation
+by-none first byte h0 h1 h2 h3 h4 h5 h6 =
+    simp
+    (ne-eqb _ _ h0, ne-eqb _ _ h1, ne-eqb _ _ h2, ne-eqb _ _ h3, ne-eqb _ _ h4, ne-eqb _ _ h5, ne-eqb _ _ h6)
+
+-- ---- The operand
+
+-- What one of two ways gives, if both do
+either : {A : Type 0} (f : Operation → A) {a : A} (t : Bool) {x y : Operation} → f x ≡ a → f y ≡ a
+    → f (if t then x else y) ≡ a
+either f true p q = p
+either f false p q = q
+
+-- Every byte but ADD's has its operand printed.
+operand-shown : (first byte : ℕ) (z : ℤ) → (byte ≡ first + 2 → ⊥)
+    → operation-operand (operation first byte) z ≡ 32 ∷ signed z
+unfolding operation operation-operand
+operand-shown first byte z h =
+    let shows : Operation → List ℕ = λ o. operation-operand o z in
+    rw (ne-eqb byte (first + 2) h)
+    (either shows (eqb byte first) refl
+    (either shows (eqb byte (first + 1)) refl
+    (either shows (eqb byte (first + 3)) refl
+    (either shows (eqb byte (first + 4)) refl
+    (either shows (eqb byte (first + 5)) refl
+    (either shows (eqb byte (first + 6)) refl refl))))))
+
+module _ (first : ℕ) (code : List ℕ) (i : ℕ) where
+  -- The name of the record there
+  abbrev pub name-at : List ℕ
+  name-at = operation-name (operation first (getD code (5 * i) 0))
+
+  -- The text of ADD is its name,
+  pub text-of-add : getD code (5 * i) 0 ≡ first + 2 → text-at first code i ≡ name-at
+  unfolding text-at operation operation-operand
+  text-of-add e =
+      ap
+      (λ (o : Operation). name-at ++ operation-operand o (number-at code (5 * i + 1)))
+      (by-number first (getD code (5 * i) 0) 2 e)
+      ∙ append-nil name-at
+
+  -- and every other is its name, a blank and its operand.
+  pub text-of-other : (z : ℤ) → (getD code (5 * i) 0 ≡ first + 2 → ⊥) → z ≡ number-at code (5 * i + 1)
+      → text-at first code i ≡ name-at ++ (32 ∷ signed z)
+  unfolding text-at
+  text-of-other z h e =
+      ap (λ (l : List ℕ). name-at ++ l) (operand-shown first (getD code (5 * i) 0) (number-at code (5 * i + 1)) h)
+      ∙ ap (λ (y : ℤ). name-at ++ (32 ∷ signed y)) (sym e)
+
+-- ---- Lengths
+
+pub name-length : (o : Operation) → length (operation-name o) ≤ 7
+unfolding operation-name name-text
+name-length loadi = omega arith
+name-length load = omega arith
+name-length add = omega arith
+name-length store = omega arith
+name-length jmp = omega arith
+name-length jmpless = omega arith
+name-length jmpge = omega arith
+name-length unknown = omega arith
+
+operand-length : (o : Operation) (z : ℤ) → length (operation-operand o z) ≤ 12
+unfolding operation-operand
+operand-length loadi z = omega (arith, signed-length z)
+operand-length load z = omega (arith, signed-length z)
+operand-length add z = omega arith
+operand-length store z = omega (arith, signed-length z)
+operand-length jmp z = omega (arith, signed-length z)
+operand-length jmpless z = omega (arith, signed-length z)
+operand-length jmpge z = omega (arith, signed-length z)
+operand-length unknown z = omega (arith, signed-length z)
+
+-- A record's text has at most 19 bytes,
+pub text-length : (first : ℕ) (code : List ℕ) (i : ℕ) → length (text-at first code i) ≤ 19
+unfolding text-at
+text-length first code i =
+    let o = operation first (getD code (5 * i) 0) in
+    let z = number-at code (5 * i + 1) in
+    omega (arith, length-append (operation-name o) (operation-operand o z), name-length o, operand-length o z)
+
+-- and the line of one of the first 10,000 positions has at most 48.
+pub line-length : (assembly machine : List ℕ) (i : ℕ) → i < 10000 → length (line-at assembly machine i) ≤ 48
+unfolding line-at
+line-length assembly machine i h =
+    simp length-append
+    (omega (arith, decimal-below-10000 i h, text-length 0x40 assembly i, text-length 0x50 machine i))
+
+-- ---- The record
+
+-- A name that was read: its number, and what names it
+record Read {Name : Type 0} (k : Kind Name) (f : Name → Record Name) (z : ℤ) (r : Record Name) : Type 0 where
+  number : ℕ
+  operand-is : z ≡ pos number
+  record-is : r ≡ f (k .name number)
+
+read : {Name : Type 0} (k : Kind Name) (f : Name → Record Name) (z : ℤ) (r : Record Name)
+    → option-map f (name-of k z) ≡ some r → Read k f z r
+unfolding option-map name-of
+read k f (pos u) r e = by (k .is-name u) e
+  where
+    by : (t : Bool) → option-map f (if t then some (k .name u) else none) ≡ some r → Read k f (pos u) r
+    by true q = record { number = u; operand-is = refl; record-is = cc }
+    by false q = absurd (let no : _≡_ {A = ℕ} 0 1 = cc in omega arith)
+read k f (negsuc u) r e = absurd (let no : _≡_ {A = ℕ} 0 1 = cc in omega arith)
+
+-- A kind whose names have the numbers that they were read from
+pub record Numbered {Name : Type 0} (k : Kind Name) : Type 0 where
+  pub numbered : (u : ℕ) → k .number (k .name u) ≡ u
+
+module _ {Name : Type 0} (k : Kind Name) (n : Numbered k) where
+  -- ADD's operand is 0
+  read-add : (z : ℤ) (r : Record Name) (t : Bool) → (if t then some ADD else none) ≡ some r → r ≡ ADD
+  read-add z r true e = cc
+  read-add z r false e = absurd (let no : _≡_ {A = ℕ} 0 1 = cc in omega arith)
+
+  -- A name's number is printed.
+  shown-load : (z : ℤ) (r : Record Name) → Read k LOAD z r
+      → operation-name load ++ operation-operand load z ≡ record-text k r
+  unfolding operation-name operation-operand name-text operand-text operand
+  shown-load z r h = rw (h .operand-is, h .record-is, n .numbered)
+
+  shown-store : (z : ℤ) (r : Record Name) → Read k STORE z r
+      → operation-name store ++ operation-operand store z ≡ record-text k r
+  unfolding operation-name operation-operand name-text operand-text operand
+  shown-store z r h = rw (h .operand-is, h .record-is, n .numbered)
+
+  -- What is printed for a record's byte and operand is printed for the record.
+  shown-record : (o : Operation) (z : ℤ) (r : Record Name) → record-of k o z ≡ some r
+      → operation-name o ++ operation-operand o z ≡ record-text k r
+  unfolding record-of operation-name operation-operand name-text operand-text operand
+  shown-record loadi z r e = let is : LOADI z ≡ r = cc in ap (record-text k) is
+  shown-record load z r e = shown-load z r (read k LOAD z r e)
+  shown-record add z r e = ap (record-text k) (sym (read-add z r (is-zero z) e))
+  shown-record store z r e = shown-store z r (read k STORE z r e)
+  shown-record jmp z r e = let is : JMP z ≡ r = cc in ap (record-text k) is
+  shown-record jmpless z r e = let is : JMPLESS z ≡ r = cc in ap (record-text k) is
+  shown-record jmpge z r e = let is : JMPGE z ≡ r = cc in ap (record-text k) is
+  shown-record unknown z r e = absurd (let no : _≡_ {A = ℕ} 0 1 = cc in omega arith)
+
+  -- The text at an index is the text of the record there.
+  pub text-is : (code : List ℕ) (i : ℕ) (r : Record Name) → record-at k code i ≡ some r
+      → text-at (k .first) code i ≡ record-text k r
+  unfolding text-at
+  text-is code i r e =
+      shown-record (operation (k .first) (getD code (5 * i) 0)) (number-at code (5 * i + 1)) r e
