@@ -9,3 +9,4 @@ pub mod Parts
 pub mod Bounds
 pub mod Whole
 pub mod Ranges
+pub mod Opened
