@@ -1,5 +1,5 @@
--- The numbers that going back answers are small: code of whole records has at most 4,096 of them, and a refusal's place
--- is 0 or one of these.
+-- The numbers that the exported calls answer are small. Going back: code of whole records has at most 4,096 of them, and
+-- a refusal's place is 0 or one of these. Compiling: its sizes are reading's, and so are its refusals but for 8 and 7.
 use mathlib.Core.Path.{_≡_, refl}
 use Prim.Native.Nat.{ℕ, _*_, _%_, _≤_}
 use native.Mathlib.Omega.{arith}
@@ -9,11 +9,17 @@ use lib.Dec.{eqb, leb}
 use lib.ListN.{length}
 use borrow.Author.Tests.{leb-true}
 use Rattle.base.specs.Answers.{Answer, gives, refused, unless_refuse_at_else_, and-then, settle}
-use Rattle.record.specs.Records.{Record, MachineCode}
+use Rattle.text.specs.Syntax.{Command}
+use Rattle.text.specs.Reading.{read-text}
+use Rattle.text.specs.Encoding.{Bytes}
+use Rattle.text.specs.Sizes.{records, Sizes, sizes}
+use Rattle.text.specs.Calls.{read-call}
+use Rattle.text.proofs.Ranges.{InRange, in-range}
+use Rattle.record.specs.Records.{MachineCode}
 use Rattle.record.specs.Bytes.{machine-kind, record-count, whole, records-of}
 use Rattle.record.proofs.Tested.{records-length, first-refused}
 use Rattle.compile.specs.Table.{named-in, is-table}
-use Rattle.compile.specs.Calls.{go-back-tests, go-back}
+use Rattle.compile.specs.Calls.{Compiled, compile-tests, compile, go-back-tests, go-back}
 use Rattle.table.proofs.Settled.{both}
 
 -- An answer whose count, or whose place, is at most 4,096
@@ -59,3 +65,33 @@ module _ (code t out : List ℕ) where
   pub go-back-small : Small (λ n. n) (go-back code t out .0)
   unfolding go-back
   go-back-small = by-tests (go-back-tests code t out) _ tests-small
+
+-- ---- Compiling
+
+-- Sizes that fit their bits, or a refusal whose place does
+abbrev pub SmallSizes : Answer Sizes → Type 0
+SmallSizes (gives z) = (z .records ≤ 4096) × (z .depth ≤ 63) × (z .cells ≤ 64)
+SmallSizes (refused number place) = place ≤ 4096
+
+module _ (text : List ℕ) (bytes : Bytes text) (l : Compiled) where
+  -- a command that is read, after the two tests of the lent buffers
+  tested-sizes : (c : Command) → InRange (gives (sizes c)) → (b b′ : Bool) (f : Command → Compiled)
+      → SmallSizes (settle (unless b refuse 8 at 0 else unless b′ refuse 7 at 0 else gives c) sizes f l .0)
+  unfolding settle
+  tested-sizes c h true true f = h
+  tested-sizes c h true false f = omega arith
+  tested-sizes c h false b′ f = omega arith
+
+  by-reading : (x : Answer Command) → InRange (and-then x (λ c. gives (sizes c))) → (f : Command → Compiled)
+      → SmallSizes (settle (and-then x (λ c.
+      unless eqb (length (l .table)) 64 refuse 8 at 0 else
+      unless leb (5 * records c) (length (l .code)) refuse 7 at 0 else
+      gives c)) sizes f l .0)
+  unfolding and-then settle
+  by-reading (gives c) h f =
+      tested-sizes c h (eqb (length (l .table)) 64) (leb (5 * records c) (length (l .code))) f
+  by-reading (refused number place) h f = h .1
+
+  pub compile-small : SmallSizes (compile text l .0)
+  unfolding compile compile-tests read-call
+  compile-small = by-reading (read-text text) (in-range text bytes) _

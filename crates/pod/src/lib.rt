@@ -3,7 +3,7 @@ ghost use mathlib.Core.Path.{_≡_};
 ghost use Prim.Native.Nat.{_≤_};
 ghost use Rattle.base.specs.Answers.{gives, refused};
 ghost use Rattle.text.specs.Calls.{read-call};
-ghost use Rattle.compile.specs.Calls.{go-back};
+ghost use Rattle.compile.specs.Calls.{compile, go-back};
 ghost use Rattle.pod.specs.Exports.{packed, packed-count, beside};
 use table::Count;
 use text::Reading;
@@ -39,6 +39,22 @@ pub extern "C" fn profile_read(text: &[u8]) -> u64
     ensures { λ r. ⌜ r ≡ packed (read-call (now (text .entry))) ⌝ }
 {
     match text::read(text) {
+        Reading::Refused { number, place } => pack_refusal(number, place),
+        Reading::Accepted {
+            records,
+            depth,
+            cells,
+        } => pack_sizes(records, depth, cells),
+    }
+}
+
+// Compiles a text into machine code and its table: the sizes, or the refusal.
+#[no_mangle]
+pub extern "C" fn profile_compile(text: &[u8], code: &mut [u8], table: &mut [u8]) -> u64
+    ensures { λ r. ⌜ (r, record { code = now (code .exit); table = now (table .exit) })
+        ≡ beside packed (compile (now (text .entry)) (record { code = now (code .entry); table = now (table .entry) })) ⌝ }
+{
+    match compiler::compile(text, code, table) {
         Reading::Refused { number, place } => pack_refusal(number, place),
         Reading::Accepted {
             records,

@@ -2,10 +2,10 @@
 ghost use mathlib.Core.Path.{_≡_};
 ghost use mathlib.Core.Bool.{_&&_};
 ghost use Prim.Native.Nat.{_+_, _*_, _<_, _≤_};
-ghost use lib.Dec.{ltb, leb, eqb};
+ghost use lib.Dec.{ltb, leb};
 ghost use lib.ListN.{length, getD};
-ghost use Rattle.word.specs.Numbers.{number-at, bits-of};
-ghost use Rattle.record.specs.Bytes.{record-of, operation, record-at, whole};
+ghost use Rattle.word.specs.Numbers.{number-at};
+ghost use Rattle.record.specs.Bytes.{record-of, operation, whole};
 ghost use Rattle.record.specs.Answers.{kind-of, assembly-numbers, machine-numbers, is-some, numbered, Tested};
 
 // What LOAD and STORE name: a variable number (0 to 63) in assembly, an address (1 to n) in machine code.

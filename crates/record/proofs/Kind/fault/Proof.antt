@@ -1,17 +1,15 @@
 -- The first index without a record. The loop keeps that every index passed has one; where it stops, or comes to the
 -- end, Testing says what the test of all of them gives.
-use mathlib.Core.Path.{_≡_, sym, ap, ap₂, _∙_}
-use mathlib.Core.Bool.{Bool, true, false}
+use mathlib.Core.Path.{_≡_, sym, ap₂, _∙_}
+use mathlib.Core.Bool.{Bool, true}
 use mathlib.Core.List.{List}
-use Prim.Native.Nat.{ℕ, _+_, _-_, _*_, _<_, _≤_}
+use Prim.Native.Nat.{ℕ, _-_, _<_, _≤_}
 use native.Mathlib.Omega.{arith}
 use borrow.Author.Count.{below-more}
 use borrow.Author.Needs.{needs}
 use borrow.Author.Tests.{not-true, not-false}
 use lib.IntN.{ℤ}
-use lib.ListN.{getD}
 use mir.Syntax.{w32}
-use Rattle.word.specs.Numbers.{number-at}
 use Rattle.word.proofs.Laws.{read-back}
 use Rattle.record.specs.Bytes.{record-of, operation, record-at}
 use Rattle.record.specs.Answers.{kind-of, is-some}

@@ -1,0 +1,39 @@
+-- LOADI: full, or the number pushed and the machine moved.
+use mathlib.Core.List.{List}
+use borrow.Author.Needs.{needs}
+use lib.IntN.{ℤ}
+use mir.Facts.{toZ-ofZ}
+use Rattle.record.specs.declared.Address.{Address}
+use Rattle.machine.proofs.Doing.{Place, loadi-full, loadi-pushed}
+use Rattle.machine_code.proofs.Settings.{place}
+use Rattle.machine_code.proofs.Executor.loadi.Statement.{statement}
+use Rattle.machine_code.proofs.Executor.loadi.Tie as tie
+
+-- where the record is done
+abbrev here : tie.Start → Place (List ℤ) Address
+here s = place (s .args .self) (s .args .memory .now)
+
+full : tie.Need-returns
+full c =
+    let s = c .before .before .before .before in
+    loadi-full (here s) (s .args .z) (c .stops .ensures) (c .before .if1 .taken)
+
+pushed : tie.Need-returns-2
+pushed c =
+    let test = c .before .before .before .before .before in
+    let s = test .before .before .before in
+    loadi-pushed (here s) (c .moves .ensures)
+    (c .before .before .before .poke .ensures) (toZ-ofZ (s .fits .z)) (test .if1 .left)
+
+pub loadi-spec : {M : Type 1} → statement M
+loadi-spec =
+    tie.close
+    (tie.spec
+    (λ c κs. search needs)
+    full
+    (λ c κs. search needs)
+    (λ c. search needs)
+    (λ c. search needs)
+    (λ c κs. search needs)
+    (λ c. search needs)
+    pushed)
