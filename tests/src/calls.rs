@@ -4,6 +4,14 @@
 mod exported {
     extern "C" {
         pub fn profile_read(text: *const u8, text_len: usize) -> u64;
+        pub fn profile_compile(
+            text: *const u8,
+            text_len: usize,
+            code: *mut u8,
+            code_len: usize,
+            table: *mut u8,
+            table_len: usize,
+        ) -> u64;
         pub fn profile_go_back(
             code: *const u8,
             code_len: usize,
@@ -12,8 +20,50 @@ mod exported {
             out: *mut u8,
             out_len: usize,
         ) -> u64;
-        pub fn probe_run_source(text: *const u8, text_len: usize, store: *mut i32, store_len: usize, budget: u32)
-            -> u64;
+        pub fn probe_assemble(text: *const u8, text_len: usize, out: *mut u8, out_len: usize) -> u64;
+        pub fn probe_run_source(
+            text: *const u8,
+            text_len: usize,
+            store: *mut i32,
+            store_len: usize,
+            budget: u32,
+        ) -> u64;
+        pub fn probe_run_assembly(
+            code: *const u8,
+            code_len: usize,
+            store: *mut i32,
+            store_len: usize,
+            stack: *mut i32,
+            stack_len: usize,
+            budget: u32,
+        ) -> u64;
+        pub fn probe_load(
+            table: *const u8,
+            table_len: usize,
+            store: *const i32,
+            store_len: usize,
+            depth: u64,
+            memory: *mut i32,
+            memory_len: usize,
+        ) -> u64;
+        pub fn probe_run_machine(
+            code: *const u8,
+            code_len: usize,
+            memory: *mut i32,
+            memory_len: usize,
+            depth: u64,
+            cells: u64,
+            budget: u32,
+        ) -> u64;
+        pub fn probe_read_back(
+            table: *const u8,
+            table_len: usize,
+            memory: *const i32,
+            memory_len: usize,
+            depth: u64,
+            store: *mut i32,
+            store_len: usize,
+        ) -> u64;
     }
 }
 
@@ -76,30 +126,65 @@ fn ran(packed: u64) -> Ran {
     Ran { end, count: (packed >> 16) as u32 }
 }
 
+fn count(packed: u64) -> usize {
+    assert_eq!(packed >> 24, 0, "bits above the packing: {packed:#x}");
+    (packed >> 8) as usize
+}
+
 pub fn read(text: &[u8]) -> Answer<Sizes> {
     answer(unsafe { exported::profile_read(text.as_ptr(), text.len()) }, sizes)
 }
 
+pub fn assemble(text: &[u8], out: &mut [u8]) -> Answer<Sizes> {
+    answer(unsafe { exported::probe_assemble(text.as_ptr(), text.len(), out.as_mut_ptr(), out.len()) }, sizes)
+}
+
+pub fn compile(text: &[u8], out: &mut [u8], table: &mut [u8]) -> Answer<Sizes> {
+    let (text_at, out_at, table_at) = (text.as_ptr(), out.as_mut_ptr(), table.as_mut_ptr());
+    let packed =
+        unsafe { exported::profile_compile(text_at, text.len(), out_at, out.len(), table_at, table.len()) };
+    answer(packed, sizes)
+}
+
 pub fn go_back(code: &[u8], table: &[u8], out: &mut [u8]) -> Answer<usize> {
-    let packed = unsafe {
-        exported::profile_go_back(
-            code.as_ptr(),
-            code.len(),
-            table.as_ptr(),
-            table.len(),
-            out.as_mut_ptr(),
-            out.len(),
-        )
-    };
-    answer(packed, |packed| {
-        assert_eq!(packed >> 24, 0, "bits above the packing: {packed:#x}");
-        (packed >> 8) as usize
-    })
+    let (code_at, table_at, out_at) = (code.as_ptr(), table.as_ptr(), out.as_mut_ptr());
+    let packed =
+        unsafe { exported::profile_go_back(code_at, code.len(), table_at, table.len(), out_at, out.len()) };
+    answer(packed, count)
 }
 
 pub fn run_source(text: &[u8], store: &mut [i32], budget: u32) -> Answer<Ran> {
+    let (text_at, store_at) = (text.as_ptr(), store.as_mut_ptr());
+    answer(unsafe { exported::probe_run_source(text_at, text.len(), store_at, store.len(), budget) }, ran)
+}
+
+pub fn run_assembly(code: &[u8], store: &mut [i32], stack: &mut [i32], budget: u32) -> Answer<Ran> {
+    let (code_at, store_at, stack_at) = (code.as_ptr(), store.as_mut_ptr(), stack.as_mut_ptr());
     let packed = unsafe {
-        exported::probe_run_source(text.as_ptr(), text.len(), store.as_mut_ptr(), store.len(), budget)
+        exported::probe_run_assembly(code_at, code.len(), store_at, store.len(), stack_at, stack.len(), budget)
     };
     answer(packed, ran)
+}
+
+pub fn load(table: &[u8], store: &[i32], depth: u64, memory: &mut [i32]) -> Answer<usize> {
+    let (table_at, store_at, memory_at) = (table.as_ptr(), store.as_ptr(), memory.as_mut_ptr());
+    let packed =
+        unsafe { exported::probe_load(table_at, table.len(), store_at, store.len(), depth, memory_at, memory.len()) };
+    answer(packed, count)
+}
+
+pub fn run_machine(code: &[u8], memory: &mut [i32], depth: u64, cells: u64, budget: u32) -> Answer<Ran> {
+    let (code_at, memory_at) = (code.as_ptr(), memory.as_mut_ptr());
+    let packed = unsafe {
+        exported::probe_run_machine(code_at, code.len(), memory_at, memory.len(), depth, cells, budget)
+    };
+    answer(packed, ran)
+}
+
+pub fn read_back(table: &[u8], memory: &[i32], depth: u64, store: &mut [i32]) -> Answer<usize> {
+    let (table_at, memory_at, store_at) = (table.as_ptr(), memory.as_ptr(), store.as_mut_ptr());
+    let packed = unsafe {
+        exported::probe_read_back(table_at, table.len(), memory_at, memory.len(), depth, store_at, store.len())
+    };
+    answer(packed, count)
 }

@@ -234,3 +234,24 @@ pub fn damaged(mut text: Vec<u8>, random: &mut Random) -> Vec<u8> {
     }
     text
 }
+
+/// Code of a kind, whose LOADI is `first`: records that are mostly good, of few names and short jumps.
+pub fn code(random: &mut Random, first: u8) -> Vec<u8> {
+    let mut code = Vec::new();
+    for _ in 0..random.below(12) {
+        let number = random.below(7) as u8;
+        let operand = match number {
+            0 => random.cell(),
+            1 | 3 => random.below(5) as i32,
+            2 => 0,
+            _ => random.below(9) as i32 - 4,
+        };
+        let other = random.one_in(60);
+        code.push(if other { random.bits() as u8 } else { first + number });
+        code.extend(if random.one_in(60) { random.cell() } else { operand }.to_le_bytes());
+    }
+    if random.one_in(30) {
+        code.pop();
+    }
+    code
+}

@@ -10,11 +10,70 @@ fn read() {
 }
 
 #[test]
+fn assemble() {
+    for call in vectors::calls("assemble") {
+        let mut out = call.bytes("out");
+        assert_eq!(calls::assemble(&call.bytes("text"), &mut out), call.sizes(), "line {}", call.line);
+        assert_eq!(out, call.bytes_after("out"), "line {}", call.line);
+    }
+}
+
+#[test]
+fn compile() {
+    for call in vectors::calls("compile") {
+        let (mut out, mut table) = (call.bytes("out"), call.bytes("table"));
+        assert_eq!(calls::compile(&call.bytes("text"), &mut out, &mut table), call.sizes(), "line {}", call.line);
+        assert_eq!((out, table), (call.bytes_after("out"), call.bytes_after("table")), "line {}", call.line);
+    }
+}
+
+#[test]
 fn run_source() {
     for call in vectors::calls("run_source") {
         let mut store = call.cells("store");
         let got = calls::run_source(&call.bytes("text"), &mut store, call.budget());
         assert_eq!(got, call.ran(), "line {}", call.line);
+        assert_eq!(store, call.cells_after("store"), "line {}", call.line);
+    }
+}
+
+#[test]
+fn run_assembly() {
+    for call in vectors::calls("run_assembly") {
+        let (mut store, mut stack) = (call.cells("store"), call.cells("stack"));
+        let got = calls::run_assembly(&call.bytes("code"), &mut store, &mut stack, call.budget());
+        assert_eq!(got, call.ran(), "line {}", call.line);
+        assert_eq!((store, stack), (call.cells_after("store"), call.cells_after("stack")), "line {}", call.line);
+    }
+}
+
+#[test]
+fn load() {
+    for call in vectors::calls("load") {
+        let mut memory = call.cells("memory");
+        let got = calls::load(&call.bytes("table"), &call.cells("store"), call.number("D"), &mut memory);
+        assert_eq!(got, call.count("n"), "line {}", call.line);
+        assert_eq!(memory, call.cells_after("memory"), "line {}", call.line);
+    }
+}
+
+#[test]
+fn run_machine() {
+    for call in vectors::calls("run_machine") {
+        let mut memory = call.cells("memory");
+        let (code, depth, n) = (call.bytes("code"), call.number("D"), call.number("n"));
+        let got = calls::run_machine(&code, &mut memory, depth, n, call.budget());
+        assert_eq!(got, call.ran(), "line {}", call.line);
+        assert_eq!(memory, call.cells_after("memory"), "line {}", call.line);
+    }
+}
+
+#[test]
+fn read_back() {
+    for call in vectors::calls("read_back") {
+        let mut store = call.cells("store");
+        let got = calls::read_back(&call.bytes("table"), &call.cells("memory"), call.number("D"), &mut store);
+        assert_eq!(got, call.count("n"), "line {}", call.line);
         assert_eq!(store, call.cells_after("store"), "line {}", call.line);
     }
 }
