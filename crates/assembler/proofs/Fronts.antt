@@ -48,9 +48,6 @@ module _ {r : Reader Condition} {distance : ℕ} {Q T : AssemblyCode} {i : ℕ} 
 
   -- The condition was measured
   module _ {t : Part} (m : Counts test-size (r i) t) where
-    pub middle-is : t .next ≡ f .middle
-    middle-is = m (f .test) (f .middle) (f .read) .0
-
     measured : t .records ≡ test-size (f .test)
     measured = m (f .test) (f .middle) (f .read) .1
 

@@ -110,13 +110,13 @@ fn condition_size(text: &[u8], at: usize, left: usize, flag: bool) -> Part
 
 // ---- Expressions
 
-// An expression's records.
-fn write_expression(text: &[u8], at: usize, left: usize, out: &mut [u8]) -> Part
+// A constant's or a variable's record. (The nesting left is for the contract alone.)
+fn write_leaf(text: &[u8], at: usize, left: usize, out: &mut [u8]) -> Part
+    requires { ⌜ (getD (now text) at 0 ≡ 0x12 → ⊥) ⌝ }
     requires { ⌜ Writable acomp 0 (expression (now text) left at) (now out) ⌝ }
     ensures { λ r. ⌜ Writes acomp (expression (now (text .entry)) left at) (now (out .entry)) (now (out .exit)) r ⌝ }
 {
-    let byte = text[at];
-    if byte == 0x10 {
+    if text[at] == 0x10 {
         let number = word::number_at(text, at + 1);
         buffer::put_record(out, 0, LOADI, number);
         return Part {
@@ -124,24 +124,43 @@ fn write_expression(text: &[u8], at: usize, left: usize, out: &mut [u8]) -> Part
             records: 1,
         };
     }
-    if byte == 0x11 {
-        buffer::put_record(out, 0, LOAD, text[at + 1] as i32);
-        return Part {
-            next: at + 2,
-            records: 1,
-        };
+    buffer::put_record(out, 0, LOAD, text[at + 1] as i32);
+    Part {
+        next: at + 2,
+        records: 1,
     }
-    let first = write_expression(text, at + 1, left - 1, out);
+}
+
+// An expression's records: a sum's are both sides', and ADD.
+fn write_expression(text: &[u8], at: usize, left: usize, out: &mut [u8]) -> Part
+    requires { ⌜ Writable acomp 0 (expression (now text) left at) (now out) ⌝ }
+    ensures { λ r. ⌜ Writes acomp (expression (now (text .entry)) left at) (now (out .entry)) (now (out .exit)) r ⌝ }
+{
+    if text[at] != 0x12 {
+        return write_leaf(text, at, left, out);
+    }
+    let first = write_side(text, at + 1, left - 1, out);
     let middle = first.next;
     let n = first.records;
     let start = 5 * n;
-    let second = write_expression(text, middle, left - 1, &mut out[start..]);
+    let second = write_side(text, middle, left - 1, &mut out[start..]);
     let m = n + second.records;
     buffer::put_record(out, m, ADD, 0);
     Part {
         next: second.next,
         records: m + 1,
     }
+}
+
+// The same for a side of a sum or of a comparison: a constant or a variable is written here, and only a sum is a call.
+fn write_side(text: &[u8], at: usize, left: usize, out: &mut [u8]) -> Part
+    requires { ⌜ Writable acomp 0 (expression (now text) left at) (now out) ⌝ }
+    ensures { λ r. ⌜ Writes acomp (expression (now (text .entry)) left at) (now (out .entry)) (now (out .exit)) r ⌝ }
+{
+    if text[at] == 0x12 {
+        return write_expression(text, at, left, out);
+    }
+    write_leaf(text, at, left, out)
 }
 
 // ---- Conditions
@@ -167,11 +186,11 @@ fn write_less(
     ensures { λ r. ⌜ Writes (jumping flag distance) (condition (now (text .entry)) left at) (now (out .entry))
         (now (out .exit)) r ⌝ }
 {
-    let first = write_expression(text, at + 1, left - 1, out);
+    let first = write_side(text, at + 1, left - 1, out);
     let middle = first.next;
     let n = first.records;
     let start = 5 * n;
-    let second = write_expression(text, middle, left - 1, &mut out[start..]);
+    let second = write_side(text, middle, left - 1, &mut out[start..]);
     let m = n + second.records;
     buffer::put_record(out, m, compare(flag), distance as i32);
     Part {

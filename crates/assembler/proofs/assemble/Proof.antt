@@ -12,11 +12,12 @@ use Rattle.text.specs.Syntax.{Command}
 use Rattle.text.specs.Reading.{command, read-text}
 use Rattle.text.specs.Sizes.{Sizes, sizes, records}
 use Rattle.text.specs.Answers.{answer}
+use Rattle.text.proofs.Opened.{taken, read-gives}
 use Rattle.compile.specs.Compilation.{ccomp}
 use Rattle.compile.proofs.Calls.{read-fits, assembled}
 use Rattle.compile.proofs.Sizes.{record-count}
 use Rattle.assembler.specs.Parts.{Writable}
-use Rattle.assembler.proofs.Calls.{accepted-command, read-from, declined, too-short}
+use Rattle.assembler.proofs.Calls.{declined, too-short, sizes-told}
 use Rattle.assembler.proofs.assemble.Statement.{statement}
 use Rattle.assembler.proofs.assemble.Tie as tie
 
@@ -46,16 +47,17 @@ accepted : (c : tie.After-reading) → let z = c .reading .given .0 in
 accepted c =
     let text = c .before .before .before .before .before .args .text .now in
     let e = ap answer (sym (c .reading .given .1)) ∙ c .before .before .read .ensures in
-    let (a, f, g) = accepted-command text e in
-    let (n, h) = read-from text f in
+    let (a, f) = read-gives text e in
+    let start = taken text f in
+    let g = sizes-told text f e in
     record {
       found = a;
       read = f;
       tells = g;
       count-is = ap (λ (z : Sizes). z .records) g;
       few = read-fits text (λ i. omega (arith, c .before .before .before .before .shared-slice-known .given i)) f .1;
-      next = n;
-      starts = h;
+      next = start .end;
+      starts = start .part;
     }
 
 -- The output has room.

@@ -50,11 +50,11 @@ sides s =
     let p = text-says.less-at (s .args .text .now) (s .args .left) (s .args .at) (s .pre .1 .is) (s .pre .0) in
     row p (ap (jumping (s .args .flag) (s .args .distance)) (p .is)) (s .pre .1 .room) (omega (arith, s .pre .1 .few))
 
-size : (c : tie.After-write-expression2)
+size : (c : tie.After-write-side2)
     → rows.Counted (sides (c .before .before .before .before .before .before .before .before))
-    (c .before .before .before .before .write-expression .result) (c .write-expression2 .result)
+    (c .before .before .before .before .write-side .result) (c .write-side2 .result)
 size c = rows.counted (sides (c .before .before .before .before .before .before .before .before))
-    (c .before .before .before .before .write-expression .ensures) (c .write-expression2 .ensures)
+    (c .before .before .before .before .write-side .ensures) (c .write-side2 .ensures)
 
 all : (c : tie.After-put-record) → let s = c .before .before .before .before .before .before .before .before .before
     .before .before .before .before .before in
@@ -63,9 +63,9 @@ all : (c : tie.After-put-record) → let s = c .before .before .before .before .
 all c =
     let s = c .before .before .before .before .before .before .before .before .before .before .before .before .before
     .before in
-    let w = c .before .before .before .before .before .before .before .before .before .before .write-expression
+    let w = c .before .before .before .before .before .before .before .before .before .before .write-side
     .ensures in
-    let v = c .before .before .before .before .before .before .write-expression2 .ensures in
+    let v = c .before .before .before .before .before .before .write-side2 .ensures in
     let distance = s .args .distance in
     let number = toZ-pos w32 {n = distance} (omega (arith, s .pre .1 .few)) in
     rows.with-last (sides s) w v
@@ -83,17 +83,17 @@ write-less-spec =
       fits = omega (
         arith,
         rows.first-few (sides (c .before .before .before .before .before .before))
-            (c .before .before .write-expression .ensures),
+            (c .before .before .write-side .ensures),
       );
     })
     (λ c. stands (c .before .before .before .before .before .before) .nested)
     (λ c. rows.second-start (sides (c .before .before .before .before .before .before))
-    (c .before .before .write-expression .ensures))
+    (c .before .before .write-side .ensures))
     (λ c. rows.second-start (sides (c .before .before .before .before .before .before))
-    (c .before .before .write-expression .ensures))
+    (c .before .before .write-side .ensures))
     (λ c. search needs)
     (λ c κs. rows.second-writable (sides (c .before .before .before .before .before .before .before))
-    (c .before .before .before .write-expression .ensures))
+    (c .before .before .before .write-side .ensures))
     (λ c. record { fits = omega (arith, size (c .before .before .before) .few) })
     (λ c κs. search needs)
     (λ c. record {
@@ -105,7 +105,7 @@ write-less-spec =
     })
     (λ c κs. rows.last-room (sides (c .before .before .before .before .before .before .before .before .before .before
     .before .before .before)) (c .before .before .before .before .before .before .before .before .before
-    .write-expression .ensures) (c .before .before .before .before .before .write-expression2 .ensures))
+    .write-side .ensures) (c .before .before .before .before .before .write-side2 .ensures))
     (λ c. record {
       fits = omega (arith, size (c .before .before .before .before .before .before .before .before) .few);
     })
