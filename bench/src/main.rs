@@ -1,19 +1,24 @@
-//! One table of ratios: the proved calls beside plain Rust or plain C of the same work, in one run.
+//! One table of ratios: the proved calls beside plain Rust and plain C of the same work, in one run.
 
+mod compiler;
+mod executors;
+mod reader;
 mod texts;
 mod walker;
 
+use std::hint::black_box;
 use std::time::Instant;
 
 extern "C" {
     fn probe_run_source(text: *const u8, text_len: usize, store: *mut i32, store_len: usize, budget: u32) -> u64;
-    fn profile_compile(
-        text: *const u8,
-        text_len: usize,
-        code: *mut u8,
+    fn probe_run_assembly(
+        code: *const u8,
         code_len: usize,
-        table: *mut u8,
-        table_len: usize,
+        store: *mut i32,
+        store_len: usize,
+        stack: *mut i32,
+        stack_len: usize,
+        budget: u32,
     ) -> u64;
     fn probe_run_machine(
         code: *const u8,
@@ -24,101 +29,274 @@ extern "C" {
         cells: u64,
         budget: u32,
     ) -> u64;
+    fn probe_assemble(text: *const u8, text_len: usize, out: *mut u8, out_len: usize) -> u64;
+    fn profile_read(text: *const u8, text_len: usize) -> u64;
+    fn profile_compile(
+        text: *const u8,
+        text_len: usize,
+        code: *mut u8,
+        code_len: usize,
+        table: *mut u8,
+        table_len: usize,
+    ) -> u64;
+    fn profile_go_back(
+        code: *const u8,
+        code_len: usize,
+        table: *const u8,
+        table_len: usize,
+        out: *mut u8,
+        out_len: usize,
+    ) -> u64;
+    fn plain_run_source(text: *const u8, store: *mut i32, budget: u32) -> u64;
+    fn plain_run_assembly(
+        code: *const u8,
+        code_len: usize,
+        store: *mut i32,
+        stack: *mut i32,
+        depth: usize,
+        budget: u32,
+    ) -> u64;
     fn plain_run_machine(code: *const u8, code_len: usize, memory: *mut i32, depth: usize, budget: u32) -> u64;
 }
 
 const TICKS: u32 = 20_000_000;
 const ROUNDS: usize = 9;
+const REPEATS: u32 = 2_000;
 /// Spent at the budget, as the probes pack it.
 const SPENT: u64 = 1 << 8 | (TICKS as u64) << 16;
 
-/// The median of the rounds' times of both works, done in turn.
-fn medians(mut proved: impl FnMut(), mut plain: impl FnMut()) -> (f64, f64) {
-    let time = |work: &mut dyn FnMut()| {
-        let start = Instant::now();
-        work();
-        start.elapsed().as_secs_f64()
-    };
-    let (mut ours, mut theirs) = (Vec::new(), Vec::new());
-    for _ in 0..ROUNDS {
-        ours.push(time(&mut proved));
-        theirs.push(time(&mut plain));
-    }
-    for times in [&mut ours, &mut theirs] {
-        times.sort_by(f64::total_cmp);
-    }
-    (ours[ROUNDS / 2], theirs[ROUNDS / 2])
-}
-
 /// A text's name and its bytes.
-type Loop = (&'static str, Vec<u8>);
+type Text = (&'static str, Vec<u8>);
 
-fn row(name: &str, count: u32, (proved, plain): (f64, f64)) {
-    let each = |seconds: f64| seconds * 1e9 / count as f64;
-    println!("{:<34}{:>14.2}{:>14.2}{:>8.2}", name, each(proved), each(plain), proved / plain);
+/// The median of each work's times over the rounds; in a round each is done once, in turn.
+fn medians<const N: usize>(works: [&mut dyn FnMut(); N]) -> [f64; N] {
+    let mut times = [const { Vec::new() }; N];
+    for _ in 0..ROUNDS {
+        for (work, times) in works.iter_mut().zip(&mut times) {
+            let start = Instant::now();
+            work();
+            times.push(start.elapsed().as_secs_f64());
+        }
+    }
+    times.map(|mut times| {
+        times.sort_by(f64::total_cmp);
+        times[ROUNDS / 2]
+    })
 }
 
-fn source_executor(loops: &[Loop]) {
-    println!("{:<34}{:>14}{:>14}{:>8}", "source executor, ns per tick", "proved", "plain Rust", "ratio");
+fn heading(what: &str, others: &[&str]) {
+    print!("\n{what:<34}{:>10}", "proved");
+    for other in others {
+        print!("{other:>12}{:>8}", "ratio");
+    }
+    println!();
+}
+
+/// The proved call's time and then each other's, with the ratio to it; times in nanoseconds for each of `count`.
+fn row<const N: usize>(name: &str, count: u32, times: [f64; N]) {
+    let each = |seconds: f64| seconds * 1e9 / count as f64;
+    print!("{name:<34}{:>10.2}", each(times[0]));
+    for other in &times[1..] {
+        print!("{:>12.2}{:>8.2}", each(*other), times[0] / other);
+    }
+    println!();
+}
+
+// ---- Executors: 20,000,000 ticks or records each, until they are spent
+
+fn source_executor(loops: &[Text]) {
+    heading("source executor, ns per tick", &["plain Rust", "plain C"]);
     for (name, text) in loops {
-        let (mut ours, mut theirs) = ([0; 64], [0; 64]);
-        let times = medians(
-            || {
-                ours = [0; 64];
-                let packed = unsafe { probe_run_source(text.as_ptr(), text.len(), ours.as_mut_ptr(), 64, TICKS) };
-                assert_eq!(packed, SPENT, "spent at the budget");
+        let (mut proved, mut rust, mut c) = ([0; 64], [0; 64], [0; 64]);
+        let times = medians([
+            &mut || {
+                proved = [0; 64];
+                let ran = unsafe { probe_run_source(text.as_ptr(), text.len(), proved.as_mut_ptr(), 64, TICKS) };
+                assert_eq!(ran, SPENT);
             },
-            || {
-                theirs = [0; 64];
-                assert_eq!(walker::run(text, &mut theirs, TICKS), (walker::End::Spent, TICKS));
+            &mut || {
+                rust = [0; 64];
+                assert_eq!(walker::run(text, &mut rust, TICKS), (walker::End::Spent, TICKS));
             },
-        );
-        assert_eq!(ours, theirs);
+            &mut || {
+                c = [0; 64];
+                assert_eq!(unsafe { plain_run_source(text.as_ptr(), c.as_mut_ptr(), TICKS) }, SPENT);
+            },
+        ]);
+        assert_eq!((proved, proved), (rust, c));
         row(name, TICKS, times);
     }
 }
 
-/// A text's machine code, with D and n.
-fn compiled(text: &[u8]) -> (Vec<u8>, usize, usize) {
-    let (mut code, mut table) = (vec![0; 5 * 4096], [0; 64]);
-    let packed = unsafe {
-        profile_compile(text.as_ptr(), text.len(), code.as_mut_ptr(), code.len(), table.as_mut_ptr(), table.len())
-    };
-    assert_eq!(packed & 255, 0, "compiled");
-    code.truncate(5 * (packed >> 8 & 0xffff) as usize);
-    (code, (packed >> 24 & 255) as usize, (packed >> 32 & 255) as usize)
+fn assembly_executor(loops: &[Text]) {
+    heading("assembly, ns per record", &["plain Rust", "plain C"]);
+    for (name, text) in loops {
+        let (code, depth, _) = assembled(text);
+        let [mut proved, mut rust, mut c] = [const { [0; 64] }; 3];
+        let [mut stack, mut rust_stack, mut c_stack] = [vec![0; depth], vec![0; depth], vec![0; depth]];
+        let (code_at, size) = (code.as_ptr(), code.len());
+        let times = medians([
+            &mut || {
+                proved = [0; 64];
+                let (store, stack_at) = (proved.as_mut_ptr(), stack.as_mut_ptr());
+                let ran = unsafe { probe_run_assembly(code_at, size, store, 64, stack_at, depth, TICKS) };
+                assert_eq!(ran, SPENT);
+            },
+            &mut || {
+                rust = [0; 64];
+                assert_eq!(executors::run_assembly(&code, &mut rust, &mut rust_stack, TICKS), SPENT);
+            },
+            &mut || {
+                c = [0; 64];
+                let (store, stack_at) = (c.as_mut_ptr(), c_stack.as_mut_ptr());
+                assert_eq!(unsafe { plain_run_assembly(code_at, size, store, stack_at, depth, TICKS) }, SPENT);
+            },
+        ]);
+        assert_eq!((proved, proved), (rust, c));
+        row(name, TICKS, times);
+    }
 }
 
-fn machine_executor(loops: &[Loop]) {
-    println!("\n{:<34}{:>14}{:>14}{:>8}", "machine code, ns per record", "proved", "plain C", "ratio");
+fn machine_executor(loops: &[Text]) {
+    heading("machine code, ns per record", &["plain Rust", "plain C"]);
     for (name, text) in loops {
-        let (code, depth, cells) = compiled(text);
+        let (code, _, depth, cells) = compiled(text);
         let size = depth + 1 + cells;
-        let (mut ours, mut theirs) = (vec![0; size], vec![0; size]);
-        let times = medians(
-            || {
-                ours.fill(0);
-                let packed = unsafe {
-                    let (d, n) = (depth as u64, cells as u64);
-                    probe_run_machine(code.as_ptr(), code.len(), ours.as_mut_ptr(), size, d, n, TICKS)
-                };
-                assert_eq!(packed, SPENT, "spent at the budget");
+        let [mut proved, mut rust, mut c] = [vec![0; size], vec![0; size], vec![0; size]];
+        let times = medians([
+            &mut || {
+                proved.fill(0);
+                let (d, n, memory) = (depth as u64, cells as u64, proved.as_mut_ptr());
+                let ran = unsafe { probe_run_machine(code.as_ptr(), code.len(), memory, size, d, n, TICKS) };
+                assert_eq!(ran, SPENT);
             },
-            || {
-                theirs.fill(0);
-                let packed =
-                    unsafe { plain_run_machine(code.as_ptr(), code.len(), theirs.as_mut_ptr(), depth, TICKS) };
-                assert_eq!(packed, SPENT, "spent at the budget");
+            &mut || {
+                rust.fill(0);
+                assert_eq!(executors::run_machine(&code, &mut rust, depth, TICKS), SPENT);
             },
-        );
-        assert_eq!(ours, theirs);
+            &mut || {
+                c.fill(0);
+                let ran = unsafe { plain_run_machine(code.as_ptr(), code.len(), c.as_mut_ptr(), depth, TICKS) };
+                assert_eq!(ran, SPENT);
+            },
+        ]);
+        assert_eq!((&proved, &proved), (&rust, &c));
         row(name, TICKS, times);
+    }
+}
+
+// ---- Texts and code
+
+fn sizes(packed: u64) -> compiler::Sizes {
+    assert_eq!(packed & 255, 0, "accepted");
+    ((packed >> 8 & 0xffff) as usize, (packed >> 24 & 255) as usize, (packed >> 32 & 255) as usize)
+}
+
+/// A text's assembly, with D and n.
+fn assembled(text: &[u8]) -> (Vec<u8>, usize, usize) {
+    let mut code = vec![0; 5 * 4096];
+    let (records, depth, cells) =
+        sizes(unsafe { probe_assemble(text.as_ptr(), text.len(), code.as_mut_ptr(), code.len()) });
+    code.truncate(5 * records);
+    (code, depth, cells)
+}
+
+/// A text's machine code and table, with D and n.
+fn compiled(text: &[u8]) -> (Vec<u8>, Vec<u8>, usize, usize) {
+    let (mut code, mut table) = (vec![0; 5 * 4096], vec![0; 64]);
+    let (code_at, table_at) = (code.as_mut_ptr(), table.as_mut_ptr());
+    let packed = unsafe { profile_compile(text.as_ptr(), text.len(), code_at, code.len(), table_at, 64) };
+    let (records, depth, cells) = sizes(packed);
+    code.truncate(5 * records);
+    (code, table, depth, cells)
+}
+
+fn repeat(mut work: impl FnMut()) -> impl FnMut() {
+    move || (0..REPEATS).for_each(|_| work())
+}
+
+fn reading(texts: &[Text]) {
+    heading("read, ns per text", &["plain Rust"]);
+    for (name, text) in texts {
+        assert_eq!(Ok(sizes(unsafe { profile_read(text.as_ptr(), text.len()) })), reader::read(text));
+        let times = medians([
+            &mut repeat(|| {
+                black_box(unsafe { profile_read(black_box(text.as_ptr()), text.len()) });
+            }),
+            &mut repeat(|| {
+                black_box(reader::read(black_box(text))).unwrap();
+            }),
+        ]);
+        row(name, REPEATS, times);
+    }
+}
+
+fn assembling(texts: &[Text]) {
+    heading("assemble, ns per text", &["plain Rust"]);
+    for (name, text) in texts {
+        let [mut proved, mut rust] = [vec![0; 5 * 4096], vec![0; 5 * 4096]];
+        let times = medians([
+            &mut repeat(|| {
+                let (out, room) = (proved.as_mut_ptr(), proved.len());
+                black_box(unsafe { probe_assemble(black_box(text.as_ptr()), text.len(), out, room) });
+            }),
+            &mut repeat(|| {
+                black_box(compiler::assemble(black_box(text), &mut rust)).unwrap();
+            }),
+        ]);
+        assert_eq!(proved, rust);
+        row(name, REPEATS, times);
+    }
+}
+
+fn compiling(texts: &[Text]) {
+    heading("compile, ns per text", &["plain Rust"]);
+    for (name, text) in texts {
+        let [mut proved, mut rust] = [vec![0; 5 * 4096], vec![0; 5 * 4096]];
+        let [mut table, mut rust_table] = [[0; 64]; 2];
+        let times = medians([
+            &mut repeat(|| {
+                let (out, room, table_at) = (proved.as_mut_ptr(), proved.len(), table.as_mut_ptr());
+                black_box(unsafe { profile_compile(black_box(text.as_ptr()), text.len(), out, room, table_at, 64) });
+            }),
+            &mut repeat(|| {
+                black_box(compiler::compile(black_box(text), &mut rust, &mut rust_table)).unwrap();
+            }),
+        ]);
+        assert_eq!((&proved, table), (&rust, rust_table));
+        row(name, REPEATS, times);
+    }
+}
+
+fn going_back(texts: &[Text]) {
+    heading("go back, ns per text", &["plain Rust"]);
+    for (name, text) in texts {
+        let (code, table, _, _) = compiled(text);
+        let [mut proved, mut rust] = [vec![0; code.len()], vec![0; code.len()]];
+        let times = medians([
+            &mut repeat(|| {
+                let (code_at, size, out, room) = (black_box(code.as_ptr()), code.len(), proved.as_mut_ptr(), code.len());
+                black_box(unsafe { profile_go_back(code_at, size, table.as_ptr(), 64, out, room) });
+            }),
+            &mut repeat(|| {
+                black_box(compiler::go_back(black_box(&code), &table, &mut rust)).unwrap();
+            }),
+        ]);
+        assert_eq!(proved, rust);
+        row(name, REPEATS, times);
     }
 }
 
 fn main() {
-    println!("medians of {ROUNDS} interleaved runs; stores and memories are cleared before each run\n");
+    println!("medians of {ROUNDS} interleaved runs; a ratio is the proved call's time to the other's");
+    println!("stores and memories are cleared before each run; outputs and tables are not");
     let loops = [("counting", texts::counting()), ("branching", texts::branching()), ("straight", texts::straight())];
     source_executor(&loops);
+    assembly_executor(&loops);
     machine_executor(&loops);
+    let long = [("random, 4,000 bytes", texts::random()), ("spine of 60 IFs and WHILEs", texts::spine())];
+    reading(&long);
+    assembling(&long);
+    compiling(&long);
+    going_back(&long);
 }

@@ -74,3 +74,67 @@ pub fn straight() -> Vec<u8> {
     });
     repeat(less(variable(0), constant(2_000_000_000)), sequence(body.collect()))
 }
+
+/// A small generator of numbers (xorshift).
+struct Random(u64);
+
+impl Random {
+    fn below(&mut self, n: u64) -> u64 {
+        self.0 ^= self.0 << 13;
+        self.0 ^= self.0 >> 7;
+        self.0 ^= self.0 << 17;
+        self.0 % n
+    }
+
+    fn expression(&mut self, levels: u32) -> Vec<u8> {
+        match self.below(if levels == 0 { 2 } else { 4 }) {
+            0 => constant(self.below(2001) as i32 - 1000),
+            1 => variable(self.below(64) as u8),
+            _ => plus(self.expression(levels - 1), self.expression(levels - 1)),
+        }
+    }
+
+    fn condition(&mut self, levels: u32) -> Vec<u8> {
+        match self.below(if levels == 0 { 4 } else { 8 }) {
+            0 => vec![0x20, self.below(2) as u8],
+            1..=3 => less(self.expression(2), self.expression(2)),
+            4..=5 => not(self.condition(levels - 1)),
+            _ => and(self.condition(levels - 1), self.condition(levels - 1)),
+        }
+    }
+
+    /// A command of about so many bytes.
+    fn command(&mut self, size: usize) -> Vec<u8> {
+        if size < 30 {
+            return assign(self.below(64) as u8, self.expression(3));
+        }
+        match self.below(10) {
+            0..=1 => choose(self.condition(2), self.command(size / 2 - 10), self.command(size / 2 - 10)),
+            2 => repeat(self.condition(2), self.command(size - 20)),
+            _ => [vec![0x02], self.command(size / 2), self.command(size / 2)].concat(),
+        }
+    }
+}
+
+/// A random text of 3,900 to 4,096 bytes
+pub fn random() -> Vec<u8> {
+    let mut random = Random(41);
+    loop {
+        let text = random.command(5000);
+        if (3900..=4096).contains(&text.len()) {
+            return text;
+        }
+    }
+}
+
+/// A spine of 60 nested IFs and WHILEs
+pub fn spine() -> Vec<u8> {
+    (0..60).fold(assign(0, constant(1)), |inner, i| {
+        let test = less(variable(i), plus(variable(i), constant(7)));
+        if i % 2 == 0 {
+            choose(test, inner, vec![0x00])
+        } else {
+            repeat(test, inner)
+        }
+    })
+}

@@ -35,6 +35,11 @@ kept {new} {at} {old} p =
     ap length (p .holds)
     ∙ simp (length-append, length-drop) (omega (arith, length-take-le at old (omega (arith, p .room)), p .room))
 
+-- The place after the bytes is within the buffer.
+pub puts-within : {new : List ℕ} {at : ℕ} {old later : List ℕ} {next : ℕ} → Puts new at old later next
+    → next ≤ length later
+puts-within p = omega (arith, kept p, p .room, p .ends)
+
 -- What is left of a room after at most `most` bytes of it.
 pub room-left : {new : List ℕ} {at : ℕ} {old later : List ℕ} {next : ℕ} → Puts new at old later next
     → (most left : ℕ) → length new ≤ most → at + (most + left) ≤ length old → next + left ≤ length later

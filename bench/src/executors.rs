@@ -1,0 +1,133 @@
+//! Both executors in plain safe Rust: records decoded from their bytes at each step.
+
+/// Where names and stack slots stand.
+trait Memory {
+    fn named(&mut self, name: i32) -> &mut i32;
+    fn slot(&mut self, slot: usize) -> &mut i32;
+}
+
+struct Assembly<'a> {
+    store: &'a mut [i32],
+    stack: &'a mut [i32],
+}
+
+impl Memory for Assembly<'_> {
+    fn named(&mut self, name: i32) -> &mut i32 {
+        &mut self.store[name as usize]
+    }
+    fn slot(&mut self, slot: usize) -> &mut i32 {
+        &mut self.stack[slot]
+    }
+}
+
+/// Cell j is address j − D; the stack grows from −1 down.
+struct Cells<'a> {
+    cells: &'a mut [i32],
+    depth: usize,
+}
+
+impl Memory for Cells<'_> {
+    fn named(&mut self, name: i32) -> &mut i32 {
+        &mut self.cells[self.depth + name as usize]
+    }
+    fn slot(&mut self, slot: usize) -> &mut i32 {
+        &mut self.cells[self.depth - 1 - slot]
+    }
+}
+
+#[derive(Clone, Copy)]
+enum End {
+    Done,
+    Spent,
+    OutOfRange,
+    Short,
+    Full,
+    Astray,
+}
+
+fn jump(position: usize, operand: i32, last: usize) -> Result<usize, End> {
+    let target = position as i64 + 1 + operand as i64;
+    if target < 0 || target > last as i64 {
+        return Err(End::Astray);
+    }
+    Ok(target as usize)
+}
+
+/// One record at a position: the next position. `size` is the stack's.
+#[inline(always)]
+fn step(
+    first: u8,
+    record: &[u8],
+    memory: &mut impl Memory,
+    size: &mut usize,
+    depth: usize,
+    position: usize,
+    last: usize,
+) -> Result<usize, End> {
+    let operand = i32::from_le_bytes(record[1..5].try_into().unwrap());
+    match record[0] - first {
+        kind @ (0 | 1) => {
+            if *size == depth {
+                return Err(End::Full);
+            }
+            *memory.slot(*size) = if kind == 0 { operand } else { *memory.named(operand) };
+            *size += 1;
+            Ok(position + 1)
+        }
+        2 => {
+            if *size < 2 {
+                return Err(End::Short);
+            }
+            let sum = memory.slot(*size - 2).checked_add(*memory.slot(*size - 1)).ok_or(End::OutOfRange)?;
+            *memory.slot(*size - 2) = sum;
+            *size -= 1;
+            Ok(position + 1)
+        }
+        3 => {
+            if *size < 1 {
+                return Err(End::Short);
+            }
+            *memory.named(operand) = *memory.slot(*size - 1);
+            *size -= 1;
+            Ok(position + 1)
+        }
+        4 => jump(position, operand, last),
+        kind => {
+            if *size < 2 {
+                return Err(End::Short);
+            }
+            let less = *memory.slot(*size - 2) < *memory.slot(*size - 1);
+            let next = if less == (kind == 5) { jump(position, operand, last)? } else { position + 1 };
+            *size -= 2;
+            Ok(next)
+        }
+    }
+}
+
+/// The end from bit 8, the count from bit 16.
+fn run(first: u8, code: &[u8], memory: &mut impl Memory, depth: usize, budget: u32) -> u64 {
+    let (last, mut position, mut size, mut count) = (code.len() / 5, 0, 0, 0);
+    let end = loop {
+        if position == last {
+            break End::Done;
+        }
+        if count == budget {
+            break End::Spent;
+        }
+        count += 1;
+        match step(first, &code[5 * position..5 * position + 5], memory, &mut size, depth, position, last) {
+            Ok(next) => position = next,
+            Err(end) => break end,
+        }
+    };
+    (end as u64) << 8 | (count as u64) << 16
+}
+
+pub fn run_machine(code: &[u8], memory: &mut [i32], depth: usize, budget: u32) -> u64 {
+    run(0x50, code, &mut Cells { cells: memory, depth }, depth, budget)
+}
+
+pub fn run_assembly(code: &[u8], store: &mut [i32], stack: &mut [i32], budget: u32) -> u64 {
+    let depth = stack.len();
+    run(0x40, code, &mut Assembly { store, stack }, depth, budget)
+}
