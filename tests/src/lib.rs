@@ -5,4 +5,6 @@ pub mod generator;
 pub mod json;
 pub mod matching;
 pub mod model;
+pub mod programs;
+pub mod seeds;
 pub mod vectors;

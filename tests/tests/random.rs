@@ -3,33 +3,20 @@
 //! A failure names its seed. `PROFILE_SEED=N cargo test --test random -- --nocapture` reruns that one and shows its text.
 
 use profile_tests::generator::{self, Random};
-use profile_tests::{calls, matching, model};
+use profile_tests::{calls, matching, model, seeds};
 
 const SEEDS: u64 = 4000;
 
-/// Each seed's text, or that of the one that PROFILE_SEED names.
-fn for_each_seed(test: impl Fn(&[u8], &mut Random, &str)) {
-    let only: Option<u64> = std::env::var("PROFILE_SEED").ok().map(|seed| seed.parse().unwrap());
-    for seed in only.map_or(0..SEEDS, |seed| seed..seed + 1) {
-        let mut random = Random::new(seed);
-        let text = generator::text(&mut random);
-        if only.is_some() {
-            println!("seed {seed}: {} bytes {text:02x?}\n{}", text.len(), model::show(&text));
-        }
-        test(&text, &mut random, &format!("seed {seed}"));
-    }
-}
-
 #[test]
 fn read() {
-    for_each_seed(|text, _, seed| {
+    seeds::for_each(SEEDS, |text, _, seed| {
         assert_eq!(calls::read(text), matching::sizes(model::read(text)), "{seed}");
     });
 }
 
 #[test]
 fn run_source() {
-    for_each_seed(|text, random, seed| {
+    seeds::for_each(SEEDS, |text, random, seed| {
         let length = if random.one_in(20) { random.below(130) } else { 64 };
         let start = random.cells(length);
         let budget = random.budget();
@@ -48,7 +35,7 @@ fn table_bytes(random: &mut Random) -> Vec<u8> {
 
 #[test]
 fn assemble_and_compile() {
-    for_each_seed(|text, random, seed| {
+    seeds::for_each(SEEDS, |text, random, seed| {
         let records = model::read(text).map_or(10, |sizes| sizes.0);
         let length = if random.one_in(8) { random.below(5 * records + 5) } else { 5 * records + random.below(9) };
         let start = random.bytes(length);
@@ -77,7 +64,7 @@ fn compiled(text: &[u8]) -> Option<(Vec<u8>, Vec<u8>, model::Sizes)> {
 
 #[test]
 fn the_four_calls_in_a_row() {
-    for_each_seed(|text, random, seed| {
+    seeds::for_each(SEEDS, |text, random, seed| {
         let Some((_, _, (records, depth, n))) = compiled(text) else { return };
         let start = random.cells(64);
         let budget = random.budget();
@@ -111,7 +98,7 @@ fn foreign_code(text: &[u8], random: &mut Random) -> Vec<u8> {
 
 #[test]
 fn foreign_machine_code() {
-    for_each_seed(|text, random, seed| {
+    seeds::for_each(SEEDS, |text, random, seed| {
         let code = foreign_code(text, random);
         let (depth, n) = (random.below(5) as u64, random.below(6) as u64);
         let length = if random.one_in(20) { random.below(12) } else { (depth + 1 + n) as usize };
@@ -126,7 +113,7 @@ fn foreign_machine_code() {
 
 #[test]
 fn foreign_assembly() {
-    for_each_seed(|_, random, seed| {
+    seeds::for_each(SEEDS, |_, random, seed| {
         let code = generator::code(random, 0x40);
         let (depth, cells) = (random.below(6), if random.one_in(30) { 63 } else { 64 });
         let (start, start_stack) = (random.cells(cells), random.cells(depth));
@@ -142,7 +129,7 @@ fn foreign_assembly() {
 
 #[test]
 fn tables_and_going_back() {
-    for_each_seed(|text, random, seed| {
+    seeds::for_each(SEEDS, |text, random, seed| {
         let (mut code, mut table) = compiled(text).map_or((vec![], vec![0; 64]), |(code, table, _)| (code, table));
         if random.one_in(3) {
             let at = random.below(64);

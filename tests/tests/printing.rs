@@ -1,0 +1,64 @@
+//! The printing program and the simple interpreter print the same, byte for byte.
+//!
+//! A failure names its seed. `PROFILE_SEED=N cargo test --test printing -- --nocapture` reruns that one and shows its text.
+
+use std::path::Path;
+
+use profile_tests::programs::{self, Output};
+use profile_tests::{model, seeds, vectors};
+
+fn show(text: &[u8]) -> String {
+    let Output { status, out, error } = programs::run("bin/show", &[], text);
+    assert_eq!((status, error.as_str()), (0, ""));
+    out
+}
+
+#[test]
+fn texts() {
+    for (path, text, want) in vectors::texts() {
+        assert_eq!(show(&text), want, "{path}");
+    }
+}
+
+#[test]
+fn examples() {
+    let folder = Path::new(env!("CARGO_MANIFEST_DIR")).join("../examples");
+    let mut count = 0;
+    for entry in std::fs::read_dir(folder).unwrap() {
+        let path = entry.unwrap().path();
+        if path.extension().is_some_and(|extension| extension == "text") {
+            let want = std::fs::read_to_string(path.with_extension("out")).unwrap();
+            assert_eq!(show(&std::fs::read(&path).unwrap()), want, "{path:?}");
+            count += 1;
+        }
+    }
+    assert!(count >= 14);
+}
+
+#[test]
+fn random_texts() {
+    seeds::for_each(2000, |text, _, seed| assert_eq!(show(text), model::show(text), "{seed}"));
+}
+
+#[test]
+fn long_inputs() {
+    for length in [4096, 4097, 5000, 200_000] {
+        let text = vec![0; length];
+        assert_eq!(show(&text), model::show(&text), "{length} bytes");
+    }
+}
+
+/// A directory is no input: nothing is printed, and the error is named.
+#[test]
+fn an_input_that_cannot_be_read() {
+    let Output { out, error, .. } = programs::run_on_directory("bin/show");
+    assert_eq!(out, "");
+    assert_eq!(error, "show: cannot read standard input: Is a directory\n");
+}
+
+/// A full device takes no output: the error is named.
+#[test]
+fn an_output_that_cannot_be_written() {
+    let Output { error, .. } = programs::run_to_full_device("bin/show", &[0]);
+    assert_eq!(error, "show: cannot write to standard output: No space left on device\n");
+}
