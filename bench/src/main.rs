@@ -69,7 +69,7 @@ const SPENT: u64 = 1 << 8 | (TICKS as u64) << 16;
 type Text = (&'static str, Vec<u8>);
 
 /// The median of each work's times over the rounds; in a round each is done once, in turn.
-fn medians<const N: usize>(works: [&mut dyn FnMut(); N]) -> [f64; N] {
+fn medians<const N: usize>(mut works: [&mut dyn FnMut(); N]) -> [f64; N] {
     let mut times = [const { Vec::new() }; N];
     for _ in 0..ROUNDS {
         for (work, times) in works.iter_mut().zip(&mut times) {
