@@ -37,7 +37,7 @@ fn examples() {
 
 #[test]
 fn random_texts() {
-    seeds::for_each(2000, |text, _, seed| assert_eq!(show(text), model::show(text), "{seed}"));
+    seeds::for_each(4000, |text, _, seed| assert_eq!(show(text), model::show(text), "{seed}"));
 }
 
 #[test]
