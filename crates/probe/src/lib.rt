@@ -23,13 +23,13 @@ fn end_number(end: End) -> u64
     }
 }
 
-// `source::run_source`, its answer packed.
+// `interpreter::run_source`, its answer packed.
 #[no_mangle]
 pub extern "C" fn probe_run_source(text: &[u8], store: &mut [i32], budget: u32) -> u64
     ensures { λ r. ⌜ (r, now (store .exit))
         ≡ packed-run (run-source (now (text .entry)) (now (store .entry)) budget) ⌝ }
 {
-    match source::run_source(text, store, budget) {
+    match interpreter::run_source(text, store, budget) {
         Run::Refused { number, place } => (number as u64) + (place as u64) * 256,
         Run::Ended { end, count } => end_number(end) * 256 + (count as u64) * 65536,
     }

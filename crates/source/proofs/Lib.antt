@@ -2,11 +2,6 @@ pub mod Cases
 pub mod Passes
 pub mod Equivalence
 pub mod SumRules
-pub mod Calls
-pub mod Steps
-pub mod Passing
 pub mod Ticks
-pub mod Compound
-pub mod Loops
-pub mod Whole
+pub mod Calls
 pub mod Texts

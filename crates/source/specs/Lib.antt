@@ -3,5 +3,3 @@ pub mod BigStep
 pub mod Calls
 pub mod Claims
 pub mod Cases
-pub mod Placed
-pub mod Answers

@@ -8,7 +8,7 @@ use Rattle.base.specs.Answers.{refused}
 use Rattle.base.specs.Ends.{End, done, spent, fault, short, full, out-of-range, astray}
 use Rattle.base.specs.Runs.{end-of, run-answer}
 use Rattle.source.specs.Calls.{run-source}
-use Rattle.source.proofs.Whole.{small-place}
+use Rattle.interpreter.proofs.Whole.{small-place}
 use Rattle.probe.specs.Packed.{end-number, packed-run}
 use Rattle.probe.proofs.probe_run_source.Statement.{statement}
 use Rattle.probe.proofs.probe_run_source.Tie as tie

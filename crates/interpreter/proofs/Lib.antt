@@ -1,0 +1,5 @@
+pub mod Passing
+pub mod Steps
+pub mod Compound
+pub mod Loops
+pub mod Whole
