@@ -1,1 +1,4 @@
 pub mod Answers
+pub mod Settled
+pub mod Sweep
+pub mod Rests

@@ -1,12 +1,13 @@
 -- Bytes written into a buffer, as lists: what stands before the place written and after it stays, so two writes in a
 -- row are one, whichever of them comes first; and a rest that is lent and comes back is a write too.
 use mathlib.Core.Path.{_≡_, sym, ap, _∙_}
-use mathlib.Core.List.{List, [], _∷_, _++_, append-assoc, append-nil}
+use mathlib.Core.List.{List, [], _∷_, _++_, append-assoc}
 use Prim.Native.Nat.{ℕ, suc, _+_, _-_, _≤_}
 use native.Mathlib.Omega.{arith}
-use lib.ListN.{length, take, drop, set, length-append, length-drop, drop-of-length-le}
-use lib.Seq.{take-all, take-at, drop-at, take-add, drop-drop, length-take-le, sets-eq}
+use lib.ListN.{length, take, drop, set, length-append, length-drop}
+use lib.Seq.{take-at, drop-at, take-add, drop-drop, length-take-le, sets-eq}
 use borrow.Rule.Slice.PartMut.{midOf, putMid}
+use Rattle.base.proofs.Rests.{rest-is, back-is}
 use Rattle.record.specs.Bytes.{over}
 use Rattle.record.proofs.Bytes.{length-over}
 use Rattle.buffer.specs.Into.{into}
@@ -66,23 +67,9 @@ length-into a p old h =
 -- ---- A rest that is lent
 
 module _ (xs : List ℕ) (a : ℕ) where
-  -- The rest from a on, as a part that is lent, is the rest;
-  pub rest-is : midOf a (length xs - a) xs ≡ drop a xs
-  rest-is = take-all (length xs - a) (drop a xs) (rw length-drop (omega arith))
-
-  pub rest-length : length (midOf a (length xs - a) xs) ≡ length xs - a
-  rest-length = ap length rest-is ∙ length-drop a xs
-
-  -- where it comes back, nothing stands after it;
-  back-is : (ys : List ℕ) → putMid a (length xs - a) xs ys ≡ take a xs ++ ys
-  back-is ys =
-      let none : drop (length xs - a) (drop a xs) ≡ [] =
-      drop-of-length-le (drop a xs) {i = length xs - a} (rw length-drop (omega arith)) in
-      ap (λ (l : List ℕ). take a xs ++ (ys ++ l)) none ∙ ap (λ (l : List ℕ). take a xs ++ l) (append-nil ys)
-
-  -- and what was written at its start is written from a on.
+  -- What was written at its start is written from a on.
   pub lent : (p ys : List ℕ) → ys ≡ over p (midOf a (length xs - a) xs) → putMid a (length xs - a) xs ys ≡ into a p xs
-  lent p ys e = back-is ys ∙ ap (λ (l : List ℕ). take a xs ++ l) (e ∙ ap (over p) rest-is)
+  lent p ys e = back-is xs a ys ∙ ap (λ (l : List ℕ). take a xs ++ l) (e ∙ ap (over p) (rest-is xs a))
 
 -- ---- Five bytes, one after the other
 

@@ -13,7 +13,8 @@ use Rattle.record.specs.Records.{Record}
 use Rattle.record.specs.Bytes.{Kind, first-byte, operand, record-bytes, code-bytes, over}
 use Rattle.record.proofs.Bytes.{five-bytes, code-bytes-append}
 use Rattle.buffer.specs.Into.{into}
-use Rattle.buffer.proofs.Lists.{into-after, into-before, length-into, rest-length, lent}
+use Rattle.base.proofs.Rests.{rest-length}
+use Rattle.buffer.proofs.Lists.{into-after, into-before, length-into, lent}
 
 -- `new` is the buffer `old` with the records P from an index on
 pub record Written {Name : Type 0} (k : Kind Name) (index : ℕ) (P : List (Record Name)) (old new : List ℕ) : Type 0

@@ -18,13 +18,13 @@ use Rattle.compile.proofs.Entries.{Distinct}
 use Rattle.fitting.specs.Simulation.{Laws}
 use Rattle.fitting.specs.Loading.{put, fill, loaded, got, read-back}
 
-length-back : (t : List ℕ) (D : ℕ) (s m : List ℤ) → length (read-back t D s m) ≡ length s
+pub length-back : (t : List ℕ) (D : ℕ) (s m : List ℤ) → length (read-back t D s m) ≡ length s
 unfolding read-back
 length-back [] D s m = refl
 length-back (a ∷ t) D [] m = refl
 length-back (a ∷ t) D (x ∷ s) m = ap suc (length-back t D s m)
 
-back-at : (t : List ℕ) (D : ℕ) (s m : List ℤ) (v : ℕ) → v < length s
+pub back-at : (t : List ℕ) (D : ℕ) (s m : List ℤ) (v : ℕ) → v < length s
     → getD (read-back t D s m) v (pos 0) ≡ got D (getD t v 0) m (getD s v (pos 0))
 unfolding read-back got
 back-at [] D s m v l = refl

@@ -9,6 +9,7 @@ use lib.ListN.{length, getD, set, drop, length-set, drop-of-length-le}
 use lib.Seq.{drop-cons}
 use Rattle.source.specs.Rules.{Store}
 use Rattle.fitting.specs.Loading.{put, fill, got, read-back}
+use Rattle.fitting.proofs.Loading.{back-at}
 
 -- ---- Putting
 
@@ -70,20 +71,6 @@ module _ {t : List ℕ} {s : Store} {D : ℕ} {old now : List ℤ} {v : ℕ} (f 
       }
 
 -- ---- Taking
-
-pub length-back : (t : List ℕ) (D : ℕ) (s m : List ℤ) → length (read-back t D s m) ≡ length s
-unfolding read-back
-length-back [] D s m = refl
-length-back (a ∷ t) D [] m = refl
-length-back (a ∷ t) D (x ∷ s) m = ap suc (length-back t D s m)
-
-back-at : (t : List ℕ) (D : ℕ) (s m : List ℤ) (v : ℕ) → v < length s
-    → getD (read-back t D s m) v (pos 0) ≡ got D (getD t v 0) m (getD s v (pos 0))
-unfolding read-back got
-back-at [] D s m v l = refl
-back-at (a ∷ t) D [] m v l = absurd (omega arith)
-back-at (a ∷ t) D (x ∷ s) m zero l = refl
-back-at (a ∷ t) D (x ∷ s) m (suc v) l = back-at t D s m v (omega arith)
 
 got-none : (D a : ℕ) (m : List ℤ) (x : ℤ) → a ≡ 0 → got D a m x ≡ x
 unfolding got

@@ -15,7 +15,7 @@ use Rattle.compile.specs.Table.{named-in, is-table}
 use Rattle.fitting.specs.Loading.{fill, loaded}
 use Rattle.fitting.specs.Calls.{pod-tests}
 use Rattle.table.proofs.Passing.{entries-most}
-use Rattle.table.proofs.Settled.{unless-passed, both}
+use Rattle.base.proofs.Settled.{unless-passed, both}
 use Rattle.loader.specs.Fits.{Fits}
 
 -- ---- The answer of each of the code's tests

@@ -20,7 +20,7 @@ use Rattle.record.specs.Bytes.{machine-kind, record-count, whole, records-of}
 use Rattle.record.proofs.Tested.{records-length, first-refused}
 use Rattle.compile.specs.Table.{named-in, is-table}
 use Rattle.compile.specs.Calls.{Compiled, compile-tests, compile, go-back-tests, go-back}
-use Rattle.table.proofs.Settled.{both}
+use Rattle.base.proofs.Settled.{both}
 
 -- An answer whose count, or whose place, is at most 4,096
 abbrev pub Small : {A : Type 0} → (A → ℕ) → Answer A → Type 0

@@ -5,9 +5,8 @@ use mathlib.Core.Bool.{Bool, true, false}
 use mathlib.Core.List.{List, _∷_, _++_, append-nil}
 use mathlib.Core.Option.{none, some}
 use Prim.Native.Nat.{ℕ, zero, suc, _+_, _*_, _<_, _≤_}
-use native.Mathlib.Nat.{zero-add, suc-add, add-zero}
 use native.Mathlib.Omega.{arith}
-use lib.Dec.{eqb, eqb·suc-suc}
+use lib.Dec.{eqb}
 use lib.IntN.{ℤ, pos, negsuc}
 use lib.ListN.{length, getD, length-append}
 use borrow.Author.Tests.{ne-eqb}
@@ -16,6 +15,7 @@ use Rattle.word.specs.Numbers.{number-at}
 use Rattle.record.specs.Records.{Record, LOADI, LOAD, ADD, STORE, JMP, JMPLESS, JMPGE}
 use Rattle.record.specs.Bytes.{Kind, operand, Operation, loadi, load, add, store, jmp, jmpless, jmpge, unknown}
 use Rattle.record.specs.Bytes.{operation, name-of, option-map, is-zero, record-of, record-at}
+use Rattle.record.proofs.Reading.{above, above-first}
 use Rattle.printer.specs.Numbers.{signed}
 use Rattle.printer.specs.Printing.{name-text, operand-text, record-text}
 use Rattle.printer.specs.Answers.{operation-name, operation-operand, text-at, line-at, Puts}
@@ -24,16 +24,7 @@ use Rattle.printer.proofs.Decimals.{signed-length, decimal-below-10000}
 
 -- ---- What a byte stands for
 
--- Two numbers above the same one are equal where what is added is,
-above : (first i j : ℕ) → eqb (first + i) (first + j) ≡ eqb i j
-above zero i j = ap₂ eqb (zero-add i) (zero-add j)
-above (suc first) i j =
-    ap₂ eqb (suc-add first i) (suc-add first j) ∙ eqb·suc-suc (first + i) (first + j) ∙ above first i j
-
-above-first : (first i : ℕ) → eqb (first + i) first ≡ eqb i 0
-above-first first i = ap (eqb (first + i)) (sym (add-zero first)) ∙ above first i 0
-
--- so a byte stands for what its number above the first stands for,
+-- A byte stands for what its number above the first stands for,
 pub by-number : (first byte j : ℕ) → byte ≡ first + j → operation first byte ≡ operation 0 j
 unfolding operation
 by-number first byte j e = rw e (simp (above, above-first))

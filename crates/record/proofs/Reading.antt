@@ -53,13 +53,13 @@ number-behind front code m n e = λ t.
 -- ---- The byte
 
 -- Two numbers above the same one are equal where what is added is.
-above : (first i j : ℕ) → eqb (first + i) (first + j) ≡ eqb i j
+pub above : (first i j : ℕ) → eqb (first + i) (first + j) ≡ eqb i j
 above zero i j = ap₂ eqb (zero-add i) (zero-add j)
 above (suc first) i j =
     ap₂ eqb (suc-add first i) (suc-add first j) ∙ eqb·suc-suc (first + i) (first + j) ∙ above first i j
 
 -- The same of the lowest and another,
-above-first : (first i : ℕ) → eqb (first + i) first ≡ eqb i 0
+pub above-first : (first i : ℕ) → eqb (first + i) first ≡ eqb i 0
 above-first first i = ap (eqb (first + i)) (sym (add-zero first)) ∙ above first i 0
 
 -- and of the lowest and itself.

@@ -1,4 +1,2 @@
 pub mod Counting
 pub mod Passing
-pub mod Settled
-pub mod Sweep

@@ -17,7 +17,7 @@ use Rattle.record.specs.declared.Kind.{Kind}
 use Rattle.record.proofs.Testing.{assembly-told, machine-told}
 use Rattle.compile.specs.Calls.{go-back}
 use Rattle.compile.specs.Table.{variable-at}
-use Rattle.table.proofs.Settled.{both, settled}
+use Rattle.base.proofs.Settled.{both, settled}
 use Rattle.translator.specs.Standing.{Stands, Holds, Renamed, Renames}
 use Rattle.translator.specs.Steps.{inverse}
 use Rattle.translator.proofs.Finding.{length-inverse, inverse-at}

@@ -16,7 +16,7 @@ use Rattle.record.specs.Bytes.{first-byte, operand, record-bytes}
 use Rattle.record.specs.Claims.{RecordFits}
 use Rattle.record.specs.Answers.{kind-of}
 use Rattle.record.specs.declared.Kind.{Kind}
-use Rattle.table.proofs.Settled.{both}
+use Rattle.base.proofs.Settled.{both}
 use Rattle.translator.specs.Standing.{Renames, Renamable}
 use Rattle.translator.specs.Steps.{has-name, renamed-front}
 

@@ -16,7 +16,8 @@ use Rattle.record.proofs.Bytes.{five-bytes, code-bytes-append}
 use Rattle.translator.specs.Standing.{Stands, Renames, Renamable}
 use Rattle.translator.specs.Steps.{renamed-front}
 use Rattle.translator.proofs.Renaming.{front-renamed, front-renamable}
-use Rattle.translator.proofs.Standing.{rest-is, back-is, fits-at, bytes-from, stand-all}
+use Rattle.base.proofs.Rests.{rest-is, back-is}
+use Rattle.translator.proofs.Standing.{fits-at, bytes-from, stand-all}
 
 module _ (from to : Kind) (names : List ℕ) (P : List (Record ℕ)) (lent : List ℕ) where
   abbrev new : ℕ → ℕ

@@ -14,20 +14,6 @@ use Rattle.record.specs.Claims.{RecordFits, CodeFits}
 use Rattle.record.proofs.Bytes.{five-bytes, code-bytes-append}
 use Rattle.translator.specs.Standing.{Stands}
 
--- ---- A rest that is lent
-
-module _ (xs : List ℕ) (a : ℕ) where
-  -- The rest from a on, as a part that is lent, is the rest,
-  pub rest-is : midOf a (length xs - a) xs ≡ drop a xs
-  rest-is = take-all (length xs - a) (drop a xs) (rw length-drop (omega arith))
-
-  -- and where it comes back, nothing stands after it.
-  pub back-is : (ys : List ℕ) → putMid a (length xs - a) xs ys ≡ take a xs ++ ys
-  back-is ys =
-      let none : drop (length xs - a) (drop a xs) ≡ [] =
-      drop-of-length-le (drop a xs) {i = length xs - a} (rw length-drop (omega arith)) in
-      ap (λ (l : List ℕ). take a xs ++ (ys ++ l)) none ∙ ap (λ (l : List ℕ). take a xs ++ l) (append-nil ys)
-
 -- ---- The record at an index
 
 module _ {Name : Type 0} (k : Kind Name) where

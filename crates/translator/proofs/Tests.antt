@@ -16,7 +16,7 @@ use Rattle.record.proofs.Tested.{records-length, records-at}
 use Rattle.record.proofs.Testing.{tested-told, machine-told}
 use Rattle.compile.specs.Calls.{go-back-tests}
 use Rattle.compile.specs.Table.{named-in, is-table}
-use Rattle.table.proofs.Settled.{unless-passed, needed, both}
+use Rattle.base.proofs.Settled.{unless-passed, needed, both}
 use Rattle.translator.specs.Standing.{Stands}
 use Rattle.translator.proofs.Read.{records-stand}
 

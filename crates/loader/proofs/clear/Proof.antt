@@ -5,7 +5,7 @@ use native.Mathlib.Omega.{arith}
 use lib.IntN.{pos}
 use lib.ListN.{length, replicate, length-replicate, getD-replicate}
 use borrow.Author.Needs.{needs}
-use Rattle.table.proofs.Sweep.{Swept, swept-start, swept-set, swept-end}
+use Rattle.base.proofs.Sweep.{Swept, swept-start, swept-set, swept-end}
 use Rattle.loader.proofs.clear.Statement.{statement}
 use Rattle.loader.proofs.clear.Tie as tie
 

@@ -3,7 +3,7 @@ use mathlib.Core.Path.{_≡_, refl, sym, ap, _∙_}
 use borrow.Author.Needs.{needs}
 use Rattle.base.specs.Answers.{gives}
 use Rattle.table.specs.Counts.{answer}
-use Rattle.table.proofs.Settled.{settled, declined}
+use Rattle.base.proofs.Settled.{settled, declined}
 use Rattle.fitting.specs.Calls.{pod-tests, read-back-call}
 use Rattle.loader.proofs.Tests.{passed, fits}
 use Rattle.loader.proofs.read_back.Statement.{statement}

@@ -10,8 +10,9 @@ use mir.Syntax.{w32}
 use mir.Facts.{toZ-ofZ}
 use borrow.Author.Needs.{needs}
 use Rattle.fitting.specs.Loading.{read-back}
-use Rattle.table.proofs.Sweep.{Swept, swept-start, swept-set, swept-kept, swept-end}
-use Rattle.loader.proofs.Cells.{length-back, keeps, takes}
+use Rattle.base.proofs.Sweep.{Swept, swept-start, swept-set, swept-kept, swept-end}
+use Rattle.fitting.proofs.Loading.{length-back}
+use Rattle.loader.proofs.Cells.{keeps, takes}
 use Rattle.loader.proofs.to_store.Statement.{statement}
 use Rattle.loader.proofs.to_store.Tie as tie
 

@@ -4,7 +4,7 @@ use Prim.Native.Nat.{_-_, _<_}
 use native.Mathlib.Omega.{arith}
 use lib.ListN.{length, replicate, length-replicate, getD-replicate}
 use borrow.Author.Needs.{needs}
-use Rattle.table.proofs.Sweep.{Swept, swept-start, swept-set, swept-end}
+use Rattle.base.proofs.Sweep.{Swept, swept-start, swept-set, swept-end}
 use Rattle.translator.proofs.clear.Statement.{statement}
 use Rattle.translator.proofs.clear.Tie as tie
 

@@ -8,7 +8,7 @@ use lib.Seq.{getD-append-add, getD-drop}
 use borrow.Author.Needs.{needs}
 use Rattle.record.specs.Bytes.{over}
 use Rattle.record.proofs.Bytes.{length-over}
-use Rattle.table.proofs.Sweep.{Swept, swept-start, swept-set, swept-stop}
+use Rattle.base.proofs.Sweep.{Swept, swept-start, swept-set, swept-stop}
 use Rattle.translator.proofs.copy.Statement.{statement}
 use Rattle.translator.proofs.copy.Tie as tie
 

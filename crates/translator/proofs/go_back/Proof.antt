@@ -6,7 +6,7 @@ use borrow.Author.Needs.{needs}
 use Rattle.base.specs.Answers.{gives}
 use Rattle.compile.specs.Calls as Calls
 use Rattle.table.specs.Counts.{answer}
-use Rattle.table.proofs.Settled.{declined}
+use Rattle.base.proofs.Settled.{declined}
 use Rattle.translator.proofs.GoingBack.{Copied, back-renames, back-holds, gone-back}
 use Rattle.translator.proofs.Tests.{tests, tests-refuse, passed}
 use Rattle.translator.proofs.go_back.Statement.{statement}

@@ -4,7 +4,7 @@ use Prim.Native.Nat.{_-_, _<_}
 use native.Mathlib.Omega.{arith}
 use lib.ListN.{length}
 use borrow.Author.Needs.{needs}
-use Rattle.table.proofs.Sweep.{Swept, swept-start, swept-set, swept-end}
+use Rattle.base.proofs.Sweep.{Swept, swept-start, swept-set, swept-end}
 use Rattle.translator.specs.Steps.{inverse}
 use Rattle.translator.proofs.Finding.{length-inverse, inverse-at}
 use Rattle.translator.proofs.invert.Statement.{statement}
