@@ -12,7 +12,7 @@ use lib.Seq.{getD-set-same, getD-set-other}
 use borrow.Author.Tests.{eqb-true, eqb-false}
 use Rattle.base.specs.Acts.{Outcome, ok, ended, then′, _>>=_, _>>_, give, if_then_else_}
 use Rattle.text.specs.Reading.{Refusal, refusal, Reader, pass}
-use Rattle.text.specs.Answers.{Sized, Marked, Told, Answered, together}
+use Rattle.text.specs.Answers.{Sized, Marked, Told, Answered, Given, together}
 use Rattle.text.specs.declared.Part.{Part}
 use Rattle.text.specs.declared.Part.the-variants.{Read, Refused}
 
@@ -72,6 +72,16 @@ got K (ok a i) {n = n} h e =
     let same : i ≡ n = cc in
     record { part = a; read = ap (ok a) same; told = record { is = cc; marks = h .marks } }
 got K (ended (refusal k p)) h e = absurd (let no : _≡_ {A = ℕ} 0 1 = cc in omega arith)
+
+-- There are as many marks then as before,
+pub as-many : {A : Type 0} (K : Sized A) (o : Outcome ℕ Refusal A) {r : Part} (m m′ : List ℕ) {n k d : ℕ}
+    → Answered K o r m m′ → r ≡ Read n k d → length m′ ≡ length m
+as-many K o m m′ h e = got K o h e .told .marks .kept
+
+-- so the next part is given what this one was.
+pub next-given : {A : Type 0} (K : Sized A) (o : Outcome ℕ Refusal A) {text : List ℕ} {r : Part} {m m′ : List ℕ}
+    {n k d : ℕ} → Given text m → Answered K o r m m′ → r ≡ Read n k d → Given text m′
+next-given K o {m = m} {m′ = m′} g h e = record { short = g .short; full = as-many K o m m′ h e ∙ g .full }
 
 -- The sizes of b together with those of a part a before it, as the code joins them
 abbrev pub after : {A B : Type 0} → Sized A → A → Sized B → ℕ → ℕ → Sized B

@@ -9,8 +9,8 @@ use lib.ListN.{length, getD}
 use Rattle.base.specs.Acts.{Outcome, ok, ended, if_then_else_}
 use Rattle.base.specs.Answers.{Answer, gives, refused}
 use Rattle.text.specs.Syntax.{Expression, Condition, Command}
-use Rattle.text.specs.Reading.{Refusal, refusal, Reader, ConditionByte, CommandByte}
-use Rattle.text.specs.Reading.{expression, condition-of, condition, command-of, command}
+use Rattle.text.specs.Reading.{Refusal, refusal, Reader, ExpressionByte, ConditionByte, CommandByte}
+use Rattle.text.specs.Reading.{expression-of, expression, condition-of, condition, command-of, command}
 use Rattle.text.specs.Sizes.{expression-records, condition-records, records, expression-depth, condition-depth}
 use Rattle.text.specs.Sizes.{depth, expression-names, condition-names, names, Sizes}
 use Rattle.text.specs.declared.Part.{Part}
@@ -74,6 +74,9 @@ pub record Given (text marks : List ℕ) : Type 0 where
   pub full : length marks ≡ 64
 
 -- A construct whose first byte is known, with the nesting left for its parts
+abbrev pub expression-parts : List ℕ → ℕ → ExpressionByte → Reader Expression
+expression-parts text left = expression-of text (expression text left)
+
 abbrev pub condition-parts : List ℕ → ℕ → ConditionByte → Reader Condition
 condition-parts text left = condition-of text (expression text left) (condition text left)
 

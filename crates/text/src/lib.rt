@@ -6,11 +6,13 @@ ghost use Prim.Native.Nat.{ℕ, _≤_, _<_, max};
 ghost use lib.ListN.{length};
 ghost use Rattle.base.specs.Acts.{if_then_else_};
 ghost use Rattle.text.specs.Reading.{number, operand, expression, condition, command};
-ghost use Rattle.text.specs.Reading.{comparison, assignment, sequence, choice, loop};
+ghost use Rattle.text.specs.Reading.{plus, negation, conjunction, comparison};
+ghost use Rattle.text.specs.Reading.{assignment, sequence, choice, loop};
 ghost use Rattle.text.specs.Sizes.{how-many};
 ghost use Rattle.text.specs.Calls.{read-call};
 ghost use Rattle.text.specs.Answers.{Answered, expressions, conditions, commands, numbers, variables, values};
-ghost use Rattle.text.specs.Answers.{Given, condition-parts, command-parts, together, Room, marked, answer};
+ghost use Rattle.text.specs.Answers.{Given, expression-parts, condition-parts, command-parts};
+ghost use Rattle.text.specs.Answers.{together, Room, marked, answer};
 
 // The most bytes in a text.
 pub const LONGEST: usize = 4096;
@@ -96,7 +98,7 @@ fn constant(text: &[u8], at: usize) -> Part
 }
 
 // A variable's byte.
-fn variable(text: &[u8], at: usize, named: &mut [u8]) -> Part
+fn variable(text: &[u8], at: usize, named: &mut [u8; 64]) -> Part
     requires { ⌜ length (now named) ≡ 64 ⌝ }
     ensures { λ r. ⌜ Answered variables (operand (now (text .entry)) 63 at) r
         (now (named .entry)) (now (named .exit)) ⌝ }
@@ -157,9 +159,26 @@ fn value(text: &[u8], at: usize, flag: bool) -> Part
     }
 }
 
-// ---- Expressions. `left` is the nesting left; it falls at each call.
+// ---- Expressions. `left` is the nesting left; it falls from a construct to its parts. A helper is given the position
+// of the construct's first byte, and the nesting left for the parts.
 
-fn expression(text: &[u8], at: usize, left: usize, named: &mut [u8]) -> Part
+// The two expressions of a Plus or a Less.
+fn two_expressions(text: &[u8], at: usize, left: usize, named: &mut [u8; 64]) -> Part
+    requires { ⌜ Given (now text) (now named) ⌝ }
+    requires { ⌜ at < length (now text) ⌝ }
+    ensures { λ r. ⌜ Answered expressions (expression-parts (now (text .entry)) left plus at) r
+        (now (named .entry)) (now (named .exit)) ⌝ }
+    ensures { λ r. ⌜ ((flag : Bool) → Answered (conditions flag)
+        (condition-parts (now (text .entry)) left comparison at) r (now (named .entry)) (now (named .exit))) ⌝ }
+{
+    let first = expression(text, at + 1, left, named);
+    let Part::Read { next, .. } = first else {
+        return first;
+    };
+    joined(first, expression(text, next, left, named), 1, 1)
+}
+
+fn expression(text: &[u8], at: usize, left: usize, named: &mut [u8; 64]) -> Part
     requires { ⌜ Given (now text) (now named) ⌝ }
     ensures { λ r. ⌜ Answered expressions (expression (now (text .entry)) left at) r
         (now (named .entry)) (now (named .exit)) ⌝ }
@@ -180,13 +199,7 @@ fn expression(text: &[u8], at: usize, left: usize, named: &mut [u8]) -> Part
     match byte {
         0x10 => constant(text, at + 1),
         0x11 => variable(text, at + 1, named),
-        0x12 => {
-            let first = expression(text, at + 1, left - 1, named);
-            let Part::Read { next, .. } = first else {
-                return first;
-            };
-            joined(first, expression(text, next, left - 1, named), 1, 1)
-        }
+        0x12 => two_expressions(text, at, left - 1, named),
         _ => Part::Refused {
             number: 2,
             place: at,
@@ -196,21 +209,31 @@ fn expression(text: &[u8], at: usize, left: usize, named: &mut [u8]) -> Part
 
 // ---- Conditions, under a flag
 
-// The two expressions of a Less whose first byte is at a position; `left` is the nesting left for them.
-fn two_expressions(text: &[u8], at: usize, left: usize, named: &mut [u8]) -> Part
+// Not: a condition under the other flag.
+fn negation(text: &[u8], at: usize, left: usize, flag: bool, named: &mut [u8; 64]) -> Part
     requires { ⌜ Given (now text) (now named) ⌝ }
     requires { ⌜ at < length (now text) ⌝ }
-    ensures { λ r. ⌜ ((flag : Bool) → Answered (conditions flag)
-        (condition-parts (now (text .entry)) left comparison at) r (now (named .entry)) (now (named .exit))) ⌝ }
+    ensures { λ r. ⌜ Answered (conditions flag) (condition-parts (now (text .entry)) left negation at) r
+        (now (named .entry)) (now (named .exit)) ⌝ }
 {
-    let first = expression(text, at + 1, left, named);
+    condition(text, at + 1, left, !flag, named)
+}
+
+// And: a condition under false, and one under And's own flag.
+fn conjunction(text: &[u8], at: usize, left: usize, flag: bool, named: &mut [u8; 64]) -> Part
+    requires { ⌜ Given (now text) (now named) ⌝ }
+    requires { ⌜ at < length (now text) ⌝ }
+    ensures { λ r. ⌜ Answered (conditions flag) (condition-parts (now (text .entry)) left conjunction at) r
+        (now (named .entry)) (now (named .exit)) ⌝ }
+{
+    let first = condition(text, at + 1, left, false, named);
     let Part::Read { next, .. } = first else {
         return first;
     };
-    joined(first, expression(text, next, left, named), 1, 1)
+    joined(first, condition(text, next, left, flag, named), 0, 0)
 }
 
-fn condition(text: &[u8], at: usize, left: usize, flag: bool, named: &mut [u8]) -> Part
+fn condition(text: &[u8], at: usize, left: usize, flag: bool, named: &mut [u8; 64]) -> Part
     requires { ⌜ Given (now text) (now named) ⌝ }
     ensures { λ r. ⌜ Answered (conditions flag) (condition (now (text .entry)) left at) r
         (now (named .entry)) (now (named .exit)) ⌝ }
@@ -230,14 +253,8 @@ fn condition(text: &[u8], at: usize, left: usize, flag: bool, named: &mut [u8]) 
     let byte = text[at];
     match byte {
         0x20 => value(text, at + 1, flag),
-        0x21 => condition(text, at + 1, left - 1, !flag, named),
-        0x22 => {
-            let first = condition(text, at + 1, left - 1, false, named);
-            let Part::Read { next, .. } = first else {
-                return first;
-            };
-            joined(first, condition(text, next, left - 1, flag, named), 0, 0)
-        }
+        0x21 => negation(text, at, left - 1, flag, named),
+        0x22 => conjunction(text, at, left - 1, flag, named),
         0x23 => two_expressions(text, at, left - 1, named),
         _ => Part::Refused {
             number: 2,
@@ -246,10 +263,10 @@ fn condition(text: &[u8], at: usize, left: usize, flag: bool, named: &mut [u8]) 
     }
 }
 
-// ---- Commands. A helper is given the position of the first byte, and the nesting left for the parts.
+// ---- Commands
 
 // Assign: a variable and an expression.
-fn assignment(text: &[u8], at: usize, left: usize, named: &mut [u8]) -> Part
+fn assignment(text: &[u8], at: usize, left: usize, named: &mut [u8; 64]) -> Part
     requires { ⌜ Given (now text) (now named) ⌝ }
     requires { ⌜ at < length (now text) ⌝ }
     ensures { λ r. ⌜ Answered commands (command-parts (now (text .entry)) left assignment at) r
@@ -263,7 +280,7 @@ fn assignment(text: &[u8], at: usize, left: usize, named: &mut [u8]) -> Part
 }
 
 // Sequence: two commands.
-fn sequence(text: &[u8], at: usize, left: usize, named: &mut [u8]) -> Part
+fn sequence(text: &[u8], at: usize, left: usize, named: &mut [u8; 64]) -> Part
     requires { ⌜ Given (now text) (now named) ⌝ }
     requires { ⌜ at < length (now text) ⌝ }
     ensures { λ r. ⌜ Answered commands (command-parts (now (text .entry)) left sequence at) r
@@ -277,7 +294,7 @@ fn sequence(text: &[u8], at: usize, left: usize, named: &mut [u8]) -> Part
 }
 
 // IF: a condition, two commands, and the record that passes the second.
-fn choice(text: &[u8], at: usize, left: usize, named: &mut [u8]) -> Part
+fn choice(text: &[u8], at: usize, left: usize, named: &mut [u8; 64]) -> Part
     requires { ⌜ Given (now text) (now named) ⌝ }
     requires { ⌜ at < length (now text) ⌝ }
     ensures { λ r. ⌜ Answered commands (command-parts (now (text .entry)) left choice at) r
@@ -296,7 +313,7 @@ fn choice(text: &[u8], at: usize, left: usize, named: &mut [u8]) -> Part
 }
 
 // WHILE: a condition, a command, and the record that goes back.
-fn repetition(text: &[u8], at: usize, left: usize, named: &mut [u8]) -> Part
+fn repetition(text: &[u8], at: usize, left: usize, named: &mut [u8; 64]) -> Part
     requires { ⌜ Given (now text) (now named) ⌝ }
     requires { ⌜ at < length (now text) ⌝ }
     ensures { λ r. ⌜ Answered commands (command-parts (now (text .entry)) left loop at) r
@@ -309,7 +326,7 @@ fn repetition(text: &[u8], at: usize, left: usize, named: &mut [u8]) -> Part
     joined(test, command(text, next, left, named), 1, 0)
 }
 
-fn command(text: &[u8], at: usize, left: usize, named: &mut [u8]) -> Part
+fn command(text: &[u8], at: usize, left: usize, named: &mut [u8; 64]) -> Part
     requires { ⌜ Given (now text) (now named) ⌝ }
     ensures { λ r. ⌜ Answered commands (command (now (text .entry)) left at) r
         (now (named .entry)) (now (named .exit)) ⌝ }

@@ -20,7 +20,8 @@ use Rattle.text.specs.Answers.{conditions, commands, Answered}
 use Rattle.text.specs.declared.Part.the-variants.{Read}
 use Rattle.text.proofs.Heads as heads
 use Rattle.text.proofs.Heads.{is-skip, is-assignment, is-sequence, is-choice, is-loop, is-no-command}
-use Rattle.text.proofs.Parts.{after, Alike, marked-none, declines, tells, two, three, first-ends, second-ends}
+use Rattle.text.proofs.Parts.{marked-none, declines, tells, next-given, after, Alike}
+use Rattle.text.proofs.Parts.{two, three, first-ends, second-ends}
 use Rattle.text.proofs.Bounds.{room, small-together, condition-small, command-small}
 use Rattle.text.proofs.choice.Reads as choice
 use Rattle.text.proofs.choice.Kinds as choice-kinds
@@ -148,40 +149,48 @@ unfolding command-of decline
     (λ c κs. search needs)  -- the condition
     (λ c. search needs)
     (λ c. search needs)
-    (λ c. search needs)
     (λ c.
-    let r = c .before .before .before .before in
+    let r = c .before .before in
     first-ends _ commands (conditions false) (condition-reading _ _) _ _ _ _ _ _ (r .condition .ensures)
     (c .enum-told .given .1))
-    (λ c κs. search needs)  -- the first command
-    (λ c. search needs)
+    (λ c κs.
+    let x = c .before .before in
+    let r = x .before .before in
+    let s = r .before .before in
+    (search needs, next-given (conditions false) _ (s .before .pre .1 .0) (r .condition .ensures) (x .test .given .1)))
     (λ c. search needs)
     (λ c. search needs)
     (λ c.
-    let r′ = c .before .before .before .before in
+    let r′ = c .before .before in
     let x = r′ .before .before .before in
-    let r = x .before .before .before .before in
+    let r = x .before .before in
     second-ends _ commands (conditions false) commands (condition-reading _ _) (reading _ _) _ _ _ _ _ _
     (r .condition .ensures) (x .test .given .1) (r′ .command .ensures) (c .enum-told2 .given .1))
-    (λ c κs. search needs)  -- the second command
     (λ c κs.
-    let r″ = c .before .before in
-    let x′ = r″ .before .before .before in
-    let r′ = x′ .before .before .before .before in
-    let s = r′ .before .before .before .before .before .before .before .before .before .before in
+    let x′ = c .before .before in
+    let r′ = x′ .before .before in
+    let x = r′ .before .before .before in
+    let r = x .before .before in
+    let s = r .before .before in
+    let given = next-given (conditions false) _ (s .before .pre .1 .0) (r .condition .ensures) (x .test .given .1) in
+    (search needs, next-given commands _ given (r′ .command .ensures) (x′ .first .given .1)))
+    (λ c κs.
+    let x′ = c .before .before .before in
+    let r′ = x′ .before .before in
+    let s = r′ .before .before .before .before .before .before .before in
     let a = s .before .args in
     let bytes : Bytes (a .text .now) = λ i. s .shared-slice-known .given i .fits in
     let small = command-small (a .text .now) bytes (s .before .pre .1 .0 .short) (a .left) in
     room 4096 4096 _ _ _ _ (omega arith)
     (rw (x′ .first .given .1) at (small _ _ _ _ (r′ .command .ensures)))
-    (small _ _ _ _ (r″ .command2 .ensures)))
+    (small _ _ _ _ (c .command2 .ensures)))
     (λ c κs.
-    let r″ = c .before .before .before in
+    let r″ = c .before in
     let x′ = r″ .before .before .before in
-    let r′ = x′ .before .before .before .before in
+    let r′ = x′ .before .before in
     let x = r′ .before .before .before in
-    let r = x .before .before .before .before in
-    let s = r .before .before .before in
+    let r = x .before .before in
+    let s = r .before .before in
     let a = s .before .args in
     let bytes : Bytes (a .text .now) = λ i. s .shared-slice-known .given i .fits in
     let small = command-small (a .text .now) bytes (s .before .pre .1 .0 .short) (a .left) in
@@ -191,13 +200,12 @@ unfolding command-of decline
     (condition-small (a .text .now) bytes (s .before .pre .1 .0 .short) (a .left) _ _ _ _ _ (r .condition .ensures)))
     (small-together 4096 4096 _ _ (rw (x′ .first .given .1) at (small _ _ _ _ (r′ .command .ensures)))
     (small _ _ _ _ (r″ .command2 .ensures)))))
-    (λ c. search needs)
     (λ c.
-    let r″ = c .before .before .before .before in
+    let r″ = c .before .before in
     let x′ = r″ .before .before .before in
-    let r′ = x′ .before .before .before .before in
+    let r′ = x′ .before .before in
     let x = r′ .before .before .before in
-    let r = x .before .before .before .before in
+    let r = x .before .before in
     three _ commands (conditions false) commands commands IF_THEN_ELSE_
     (condition-reading _ _) (reading _ _) (reading _ _) _ _ _ _ _ _ 1 0 choice-alike
     (r .condition .ensures) (x .test .given .1) (r′ .command .ensures) (x′ .first .given .1) (r″ .command2 .ensures)
@@ -218,34 +226,26 @@ unfolding command-of decline
     (λ c.
     let b = c .before .before in
     rw (heads.command-at _ _ _ (b .before .if1 .left) (b .if2 .left), is-skip (c .match .keys1)) (skip-told _ _ _))
-    (λ c. search needs)
     (λ c.
-    let r = c .before .before in
-    let k = r .before .before in
+    let k = c .before .before in
     let b = k .before .before in
     rw (heads.command-at _ _ _ (b .before .if1 .left) (b .if2 .left), is-assignment (k .match .keys2))
-    (r .assignment .ensures))
-    (λ c. search needs)
+    (c .assignment .ensures))
     (λ c.
-    let r = c .before .before in
-    let k = r .before .before in
+    let k = c .before .before in
     let b = k .before .before in
     rw (heads.command-at _ _ _ (b .before .if1 .left) (b .if2 .left), is-sequence (k .match .keys3))
-    (r .sequence .ensures))
-    (λ c. search needs)
+    (c .sequence .ensures))
     (λ c.
-    let r = c .before .before in
-    let k = r .before .before in
+    let k = c .before .before in
     let b = k .before .before in
     rw (heads.command-at _ _ _ (b .before .if1 .left) (b .if2 .left), is-choice (k .match .keys4))
-    (r .choice .ensures))
-    (λ c. search needs)
+    (c .choice .ensures))
     (λ c.
-    let r = c .before .before in
-    let k = r .before .before in
+    let k = c .before .before in
     let b = k .before .before in
     rw (heads.command-at _ _ _ (b .before .if1 .left) (b .if2 .left), is-loop (k .match .keys5))
-    (r .repetition .ensures))
+    (c .repetition .ensures))
     (λ c.
     let b = c .before .before in
     let no = c .match .rest in
@@ -259,28 +259,29 @@ unfolding command-of decline
     (λ c κs. search needs)  -- the condition
     (λ c. search needs)
     (λ c. search needs)
-    (λ c. search needs)
     (λ c.
-    let r = c .before .before .before .before in
+    let r = c .before .before in
     first-ends _ commands (conditions false) (condition-reading _ _) _ _ _ _ _ _ (r .condition .ensures)
     (c .enum-told .given .1))
-    (λ c κs. search needs)  -- the command
     (λ c κs.
-    let r′ = c .before .before in
-    let x = r′ .before .before .before in
-    let r = x .before .before .before .before in
-    let s = r .before .before .before in
+    let x = c .before .before in
+    let r = x .before .before in
+    let s = r .before .before in
+    (search needs, next-given (conditions false) _ (s .before .pre .1 .0) (r .condition .ensures) (x .test .given .1)))
+    (λ c κs.
+    let x = c .before .before .before in
+    let r = x .before .before in
+    let s = r .before .before in
     let a = s .before .args in
     let bytes : Bytes (a .text .now) = λ i. s .shared-slice-known .given i .fits in
     room 4096 4096 _ _ _ _ (omega arith)
     (rw (x .test .given .1) at
     (condition-small (a .text .now) bytes (s .before .pre .1 .0 .short) (a .left) _ _ _ _ _ (r .condition .ensures)))
-    (command-small (a .text .now) bytes (s .before .pre .1 .0 .short) (a .left) _ _ _ _ (r′ .command .ensures)))
-    (λ c. search needs)
+    (command-small (a .text .now) bytes (s .before .pre .1 .0 .short) (a .left) _ _ _ _ (c .command .ensures)))
     (λ c.
-    let r′ = c .before .before .before in
+    let r′ = c .before in
     let x = r′ .before .before .before in
-    let r = x .before .before .before .before in
+    let r = x .before .before in
     two _ commands (conditions false) commands WHILE_DO_ (condition-reading _ _) (reading _ _) _ _ _ _ _ 1 0 loop-alike
     (r .condition .ensures) (x .test .given .1) (r′ .command .ensures) (c .joined .ensures)))
     (λ t. sequence-lts.spec (sequence-claims t) (sequence-at t) sequence.Post
@@ -288,26 +289,27 @@ unfolding command-of decline
     (λ c κs. search needs)  -- the first command
     (λ c. search needs)
     (λ c. search needs)
-    (λ c. search needs)
     (λ c.
-    let r = c .before .before .before .before in
+    let r = c .before .before in
     first-ends _ commands commands (reading _ _) _ _ _ _ _ _ (r .command .ensures) (c .enum-told .given .1))
-    (λ c κs. search needs)  -- the second command
     (λ c κs.
-    let r′ = c .before .before in
-    let x = r′ .before .before .before in
-    let r = x .before .before .before .before in
-    let s = r .before .before .before in
+    let x = c .before .before in
+    let r = x .before .before in
+    let s = r .before .before in
+    (search needs, next-given commands _ (s .before .pre .1 .0) (r .command .ensures) (x .first .given .1)))
+    (λ c κs.
+    let x = c .before .before .before in
+    let r = x .before .before in
+    let s = r .before .before in
     let a = s .before .args in
     let bytes : Bytes (a .text .now) = λ i. s .shared-slice-known .given i .fits in
     let small = command-small (a .text .now) bytes (s .before .pre .1 .0 .short) (a .left) in
     room 4096 4096 _ _ _ _ (omega arith)
     (rw (x .first .given .1) at (small _ _ _ _ (r .command .ensures)))
-    (small _ _ _ _ (r′ .command2 .ensures)))
-    (λ c. search needs)
+    (small _ _ _ _ (c .command2 .ensures)))
     (λ c.
-    let r′ = c .before .before .before in
+    let r′ = c .before in
     let x = r′ .before .before .before in
-    let r = x .before .before .before .before in
+    let r = x .before .before in
     two _ commands commands commands _⨾_ (reading _ _) (reading _ _) _ _ _ _ _ 0 0 sequence-alike
     (r .command .ensures) (x .first .given .1) (r′ .command2 .ensures) (c .joined .ensures)))

@@ -11,7 +11,7 @@ use Rattle.text.specs.Reading.{command-of, operand, expression}
 use Rattle.text.specs.Sizes.{records, expression-depth, depth, names}
 use Rattle.text.specs.Encoding.{Bytes}
 use Rattle.text.specs.Answers.{variables, expressions, commands}
-use Rattle.text.proofs.Parts.{after, Alike, first-ends, two}
+use Rattle.text.proofs.Parts.{next-given, after, Alike, first-ends, two}
 use Rattle.text.proofs.Bounds.{room, variable-small, expression-small}
 use Rattle.text.proofs.assignment.Statement.{statement}
 use Rattle.text.proofs.assignment.Tie as tie
@@ -36,25 +36,26 @@ assignment-spec =
     (λ c κs. search needs)  -- the variable
     (λ c. search needs)
     (λ c. search needs)
-    (λ c. search needs)
     (λ c.
-    let r = c .before .before .before .before in
+    let r = c .before .before in
     first-ends _ commands variables (operand _ 63) _ _ _ _ _ _ (r .variable .ensures) (c .enum-told .given .1))
-    (λ c κs. search needs)  -- the expression
     (λ c κs.
-    let r′ = c .before .before in
-    let x = r′ .before .before .before in
-    let r = x .before .before .before .before in
-    let s = r .before .before .before in
+    let x = c .before .before in
+    let r = x .before .before in
+    let s = r .before .before in
+    next-given variables _ (s .before .pre .0) (r .variable .ensures) (x .first .given .1))
+    (λ c κs.
+    let x = c .before .before .before in
+    let r = x .before .before in
+    let s = r .before .before in
     let a = s .before .args in
     let bytes : Bytes (a .text .now) = λ i. s .shared-slice-known .given i .fits in
     room 4096 4096 _ _ _ _ (omega arith)
     (rw (x .first .given .1) at (variable-small (operand _ 63 _) _ _ _ (r .variable .ensures)))
-    (expression-small (a .text .now) bytes (s .before .pre .0 .short) (a .left) _ _ _ _ (r′ .expression .ensures)))
-    (λ c. search needs)
+    (expression-small (a .text .now) bytes (s .before .pre .0 .short) (a .left) _ _ _ _ (c .expression .ensures)))
     (λ c.
-    let r′ = c .before .before .before in
+    let r′ = c .before in
     let x = r′ .before .before .before in
-    let r = x .before .before .before .before in
+    let r = x .before .before in
     two _ commands variables expressions _:=_ (operand _ 63) (expression _ _) _ _ _ _ _ 0 0 assignment-alike
     (r .variable .ensures) (x .first .given .1) (r′ .expression .ensures) (c .joined .ensures)))

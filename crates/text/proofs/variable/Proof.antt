@@ -26,7 +26,6 @@ variable-spec =
     (λ c. search needs)
     (λ c. search needs)
     (λ c. search needs)
-    (λ c. search needs)
     (λ c.
     let a = c .before .before .before .args in
     rw (le-leb (a .at + 1) (length (a .text .now)) (omega arith), le-leb _ 63 (c .if2 .left))
