@@ -391,7 +391,7 @@ fn write_command(text: &[u8], at: usize, left: usize, out: &mut [u8]) -> Part
 pub fn assemble(text: &[u8], out: &mut [u8]) -> Reading
     ensures { λ r. ⌜ (answer r, now (out .exit)) ≡ assemble (now (text .entry)) (now (out .entry)) ⌝ }
 {
-    let reading = text::read(text);
+    let reading = reader::read(text);
     let Reading::Accepted { records, .. } = reading else {
         return reading;
     };

@@ -13,7 +13,7 @@ const TABLE_BYTES: usize = 64;
 fn without_table(text: &[u8]) -> Reading
     ensures { λ r. ⌜ answer r ≡ and-then (read-text (now (text .entry))) (λ _. refused 8 0) ⌝ }
 {
-    match text::read(text) {
+    match reader::read(text) {
         Reading::Refused { number, place } => Reading::Refused { number, place },
         Reading::Accepted {
             records: _,

@@ -504,7 +504,7 @@ pub fn run_source(text: &[u8], store: &mut [i32], budget: u32) -> Run
     ensures { λ r. ⌜ (run-answer r, now (store .exit))
         ≡ run-source (now (text .entry)) (now (store .entry)) budget ⌝ }
 {
-    match text::read(text) {
+    match reader::read(text) {
         Reading::Refused { number, place } => Run::Refused { number, place },
         Reading::Accepted { .. } => {
             if store.len() == source::VARIABLES {

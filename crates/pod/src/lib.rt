@@ -140,7 +140,7 @@ fn pack_count(n: usize) -> u64
 pub extern "C" fn profile_read(text: &[u8]) -> u64
     ensures { λ r. ⌜ r ≡ packed (read-call (now (text .entry))) ⌝ }
 {
-    match text::read(text) {
+    match reader::read(text) {
         Reading::Refused { number, place } => pack_refusal(number, place),
         Reading::Accepted {
             records,

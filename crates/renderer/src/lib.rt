@@ -109,7 +109,7 @@ pub fn render(text: &[u8], out: &mut [u8; LONGEST_OUTPUT]) -> usize
     ensures { λ r. ⌜ Puts (shown (now (text .entry))) 0 (now (out .entry)) (now (out .exit)) r ⌝ }
     ensures { λ r. ⌜ r ≤ length (now (out .exit)) ⌝ }
 {
-    match text::read(text) {
+    match reader::read(text) {
         Reading::Refused { number, place } => printer::put_refusal(out, 0, number, place),
         Reading::Accepted {
             records,

@@ -5,8 +5,5 @@ pub mod Encoded
 pub mod Decoded
 pub mod Accepted
 pub mod Heads
-pub mod Parts
-pub mod Bounds
-pub mod Whole
 pub mod Ranges
 pub mod Opened

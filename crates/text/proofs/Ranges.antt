@@ -1,6 +1,6 @@
 -- The numbers that the call `read` answers are small: a text's sizes are limited by its length and its nesting, and a
 -- refusal's place is in the text, which is short unless the refusal is 6.
-use Prim.Native.Nat.{ℕ, _≤_}
+use Prim.Native.Nat.{ℕ, _≤_, _<_}
 use native.Mathlib.Omega.{arith}
 use mathlib.Core.Path.{_≡_, refl}
 use mathlib.Core.Bool.{Bool, true, false}
@@ -8,7 +8,7 @@ use mathlib.Core.Logic.{_⊎_, inl, inr}
 use mathlib.Core.List.{List}
 use lib.Dec.{leb}
 use lib.ListN.{length}
-use borrow.Author.Tests.{leb-true, leb-false}
+use borrow.Author.Tests.{leb-true, leb-false, lt-leb}
 use Rattle.base.specs.Answers.{Answer, gives, refused, and-then}
 use Rattle.text.specs.Syntax.{Command}
 use Rattle.text.specs.Reading.{read-text}
@@ -18,7 +18,11 @@ use Rattle.text.specs.Calls.{read-call}
 use Rattle.text.specs.Claims.{Declined}
 use Rattle.text.proofs.Accepted.{one-answer}
 use Rattle.text.proofs.Sizes.{shallow, short, few}
-use Rattle.text.proofs.Whole.{too-long}
+
+-- A text that is too long is refused 6.
+pub too-long : (text : List ℕ) → 4096 < length text → refused 6 0 ≡ read-call text
+unfolding read-call read-text and-then
+too-long text h = rw (lt-leb (length text) 4096 h)
 
 -- An answer of reading with small numbers
 abbrev pub InRange : Answer Sizes → Type 0

@@ -6,19 +6,19 @@ use mathlib.Core.Bool.{Bool, false, not}
 use mathlib.Core.List.{List, [], _∷_}
 use lib.ListN.{length}
 use Rattle.base.specs.Acts.{Outcome, ok, ended}
 use Rattle.text.specs.Syntax.{Expression, Constant, Variable, Plus, Condition, Bc, Not, And, Less, Command}
 use Rattle.text.specs.Syntax.{SKIP, _:=_, _⨾_, IF_THEN_ELSE_, WHILE_DO_}
 use Rattle.text.specs.Reading.{Refusal, refusal, expression, condition, command}
 use Rattle.text.specs.Encoding.{Bytes}
 use Rattle.text.specs.Sizes.{expression-records, condition-records, records, expression-depth}
 use Rattle.text.specs.Sizes.{condition-depth, depth}
-use Rattle.text.specs.Answers.{Sized, expressions, conditions, commands, variables, Answered, together, Room}
-use Rattle.text.specs.declared.Part.{Part}
-use Rattle.text.specs.declared.Part.the-variants.{Read, Refused}
+use Rattle.reader.specs.Answers.{Sized, expressions, conditions, commands, variables, Answered, together, Room}
+use Rattle.reader.specs.declared.Part.{Part}
+use Rattle.reader.specs.declared.Part.the-variants.{Read, Refused}
 use Rattle.text.proofs.Standing as Standing
 use Rattle.text.proofs.Standing.{Holds, Kind, Stands}
 use Rattle.text.proofs.Decoded.{Fine, goes, ends, expression-decoded, condition-decoded, command-decoded}
 use Rattle.text.proofs.Sizes.{expression-short, condition-short, short}
 
 -- ---- Answers with small numbers
 

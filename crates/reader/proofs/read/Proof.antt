@@ -2,11 +2,12 @@
 -- In the answers r is the place after the command's call, x where it was found to be read or refused.
 use mathlib.Core.Path.{refl, sym}
 use borrow.Author.Needs.{needs}
-use Rattle.text.specs.Answers.{commands}
-use Rattle.text.proofs.Parts.{as-many}
-use Rattle.text.proofs.Whole.{too-long, call-refused, call-left-over, call-accepted}
-use Rattle.text.proofs.read.Statement.{statement}
-use Rattle.text.proofs.read.Tie as tie
+use Rattle.reader.specs.Answers.{commands}
+use Rattle.reader.proofs.Parts.{as-many}
+use Rattle.text.proofs.Ranges.{too-long}
+use Rattle.reader.proofs.Whole.{call-refused, call-left-over, call-accepted}
+use Rattle.reader.proofs.read.Statement.{statement}
+use Rattle.reader.proofs.read.Tie as tie
 
 pub read-spec : {M : Type 1} → statement M
 read-spec =

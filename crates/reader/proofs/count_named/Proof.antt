@@ -7,10 +7,10 @@ use native.Mathlib.Numerals.{add-one}
 use native.Mathlib.Omega.{arith}
 use borrow.Author.Tests.{eq-eqb, ne-eqb}
 use lib.ListN.{length, getD}
 use Rattle.text.specs.Sizes.{how-many}
-use Rattle.text.specs.Answers.{marked}
-use Rattle.text.proofs.count_named.Statement.{statement}
-use Rattle.text.proofs.count_named.Tie as tie
+use Rattle.reader.specs.Answers.{marked}
+use Rattle.reader.proofs.count_named.Statement.{statement}
+use Rattle.reader.proofs.count_named.Tie as tie
 
 -- The next mark is 1, or it is not.
 one-more : (marks : List ℕ) (i : ℕ) → getD marks i 0 ≡ 1

@@ -11,10 +11,10 @@ use lib.ListN.{length, getD, set, length-set}
 use lib.Seq.{getD-set-same, getD-set-other}
 use borrow.Author.Tests.{eqb-true, eqb-false}
 use Rattle.base.specs.Acts.{Outcome, ok, ended, then′, _>>=_, _>>_, give, if_then_else_}
 use Rattle.text.specs.Reading.{Refusal, refusal, Reader, pass}
-use Rattle.text.specs.Answers.{Sized, Marked, Told, Answered, Given, together}
-use Rattle.text.specs.declared.Part.{Part}
-use Rattle.text.specs.declared.Part.the-variants.{Read, Refused}
+use Rattle.reader.specs.Answers.{Sized, Marked, Told, Answered, Given, together}
+use Rattle.reader.specs.declared.Part.{Part}
+use Rattle.reader.specs.declared.Part.the-variants.{Read, Refused}
 
 -- ---- Marks
 

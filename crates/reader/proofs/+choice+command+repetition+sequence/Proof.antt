@@ -11,35 +11,35 @@ use borrow.Author.Needs.{needs}
 use borrow.Fn.Kinds.{In}
 use borrow.Fn.PlainCycle.{Measures, is, falls, and}
 use Rattle.base.specs.Acts.{then′, _>>_, give}
 use Rattle.text.specs.Syntax.{Condition, Command, SKIP, _⨾_, IF_THEN_ELSE_, WHILE_DO_}
 use Rattle.text.specs.Reading.{decline, pass, command-of}
 use Rattle.text.specs.Reading.{condition as condition-reading, command as reading}
 use Rattle.text.specs.Sizes.{records, depth, names}
 use Rattle.text.specs.Encoding.{Bytes}
-use Rattle.text.specs.Answers.{conditions, commands, Answered}
-use Rattle.text.specs.declared.Part.the-variants.{Read}
+use Rattle.reader.specs.Answers.{conditions, commands, Answered}
+use Rattle.reader.specs.declared.Part.the-variants.{Read}
 use Rattle.text.proofs.Heads as heads
 use Rattle.text.proofs.Heads.{is-skip, is-assignment, is-sequence, is-choice, is-loop, is-no-command}
-use Rattle.text.proofs.Parts.{marked-none, declines, tells, next-given, after, Alike}
-use Rattle.text.proofs.Parts.{two, three, first-ends, second-ends}
-use Rattle.text.proofs.Bounds.{room, small-together, condition-small, command-small}
-use Rattle.text.proofs.choice.Reads as choice
-use Rattle.text.proofs.choice.Kinds as choice-kinds
-use Rattle.text.proofs.+choice+command+repetition+sequence.Lts-choice as choice-lts
-use Rattle.text.proofs.command.Reads as command
-use Rattle.text.proofs.command.Kinds as command-kinds
-use Rattle.text.proofs.+choice+command+repetition+sequence.Lts-command as command-lts
-use Rattle.text.proofs.repetition.Reads as repetition
-use Rattle.text.proofs.repetition.Kinds as repetition-kinds
-use Rattle.text.proofs.+choice+command+repetition+sequence.Lts-repetition as repetition-lts
-use Rattle.text.proofs.sequence.Reads as sequence
-use Rattle.text.proofs.sequence.Kinds as sequence-kinds
-use Rattle.text.proofs.+choice+command+repetition+sequence.Lts-sequence as sequence-lts
-use Rattle.text.proofs.assignment.Reads as assignment-reads
-use Rattle.text.proofs.condition.Reads as condition-reads
-use Rattle.text.proofs.joined.Reads as joined-reads
-use Rattle.text.proofs.+choice+command+repetition+sequence.{statement}
-use Rattle.text.proofs.+choice+command+repetition+sequence.Tie.{close}
+use Rattle.reader.proofs.Parts.{marked-none, declines, tells, next-given, after, Alike}
+use Rattle.reader.proofs.Parts.{two, three, first-ends, second-ends}
+use Rattle.reader.proofs.Bounds.{room, small-together, condition-small, command-small}
+use Rattle.reader.proofs.choice.Reads as choice
+use Rattle.reader.proofs.choice.Kinds as choice-kinds
+use Rattle.reader.proofs.+choice+command+repetition+sequence.Lts-choice as choice-lts
+use Rattle.reader.proofs.command.Reads as command
+use Rattle.reader.proofs.command.Kinds as command-kinds
+use Rattle.reader.proofs.+choice+command+repetition+sequence.Lts-command as command-lts
+use Rattle.reader.proofs.repetition.Reads as repetition
+use Rattle.reader.proofs.repetition.Kinds as repetition-kinds
+use Rattle.reader.proofs.+choice+command+repetition+sequence.Lts-repetition as repetition-lts
+use Rattle.reader.proofs.sequence.Reads as sequence
+use Rattle.reader.proofs.sequence.Kinds as sequence-kinds
+use Rattle.reader.proofs.+choice+command+repetition+sequence.Lts-sequence as sequence-lts
+use Rattle.reader.proofs.assignment.Reads as assignment-reads
+use Rattle.reader.proofs.condition.Reads as condition-reads
+use Rattle.reader.proofs.joined.Reads as joined-reads
+use Rattle.reader.proofs.+choice+command+repetition+sequence.{statement}
+use Rattle.reader.proofs.+choice+command+repetition+sequence.Tie.{close}
 
 -- ---- Sizes
 

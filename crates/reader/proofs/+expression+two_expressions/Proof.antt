@@ -9,28 +9,28 @@ use native.Mathlib.Omega.{arith}
 use borrow.Author.Needs.{needs}
 use borrow.Fn.Kinds.{In}
 use borrow.Fn.PlainCycle.{Measures, is, falls, and}
 use Rattle.text.specs.Syntax.{Expression, Constant, Variable, Plus, Less}
 use Rattle.text.specs.Reading.{decline, number, operand, expression-of, condition-of}
 use Rattle.text.specs.Reading.{expression as reading}
 use Rattle.text.specs.Sizes.{expression-records, expression-depth, expression-names}
 use Rattle.text.specs.Sizes.{condition-records, condition-depth, condition-names}
 use Rattle.text.specs.Encoding.{Bytes}
-use Rattle.text.specs.Answers.{expressions, conditions, numbers, variables}
+use Rattle.reader.specs.Answers.{expressions, conditions, numbers, variables}
 use Rattle.text.proofs.Heads as heads
 use Rattle.text.proofs.Heads.{is-constant, is-variable, is-plus, is-no-expression}
-use Rattle.text.proofs.Parts.{next-given, after, Alike, declines, one, first-ends, two}
-use Rattle.text.proofs.Bounds.{room, expression-small}
-use Rattle.text.proofs.expression.Reads as expression
-use Rattle.text.proofs.expression.Kinds as expression-kinds
-use Rattle.text.proofs.+expression+two_expressions.Lts-expression as expression-lts
-use Rattle.text.proofs.two_expressions.Reads as two-expressions
-use Rattle.text.proofs.two_expressions.Kinds as two-expressions-kinds
-use Rattle.text.proofs.+expression+two_expressions.Lts-two_expressions as two-expressions-lts
-use Rattle.text.proofs.constant.Reads as constant-reads
-use Rattle.text.proofs.joined.Reads as joined-reads
-use Rattle.text.proofs.variable.Reads as variable-reads
-use Rattle.text.proofs.+expression+two_expressions.{statement}
-use Rattle.text.proofs.+expression+two_expressions.Tie.{close}
+use Rattle.reader.proofs.Parts.{next-given, after, Alike, declines, one, first-ends, two}
+use Rattle.reader.proofs.Bounds.{room, expression-small}
+use Rattle.reader.proofs.expression.Reads as expression
+use Rattle.reader.proofs.expression.Kinds as expression-kinds
+use Rattle.reader.proofs.+expression+two_expressions.Lts-expression as expression-lts
+use Rattle.reader.proofs.two_expressions.Reads as two-expressions
+use Rattle.reader.proofs.two_expressions.Kinds as two-expressions-kinds
+use Rattle.reader.proofs.+expression+two_expressions.Lts-two_expressions as two-expressions-lts
+use Rattle.reader.proofs.constant.Reads as constant-reads
+use Rattle.reader.proofs.joined.Reads as joined-reads
+use Rattle.reader.proofs.variable.Reads as variable-reads
+use Rattle.reader.proofs.+expression+two_expressions.{statement}
+use Rattle.reader.proofs.+expression+two_expressions.Tie.{close}
 
 -- ---- Sizes
 

@@ -10,13 +10,13 @@ use lib.ListN.{length, replicate, getD-replicate}
 use borrow.Author.Tests.{le-leb, lt-leb}
 use Rattle.base.specs.Acts.{Outcome, ok, ended, if_then_else_}
 use Rattle.base.specs.Answers.{gives, refused, and-then}
 use Rattle.text.specs.Syntax.{Command}
 use Rattle.text.specs.Reading.{Refusal, refusal, command, whole, read-text}
 use Rattle.text.specs.Sizes.{records, depth, names, how-many, cells}
 use Rattle.text.specs.Calls.{read-call}
-use Rattle.text.specs.Answers.{commands, Marked, marked, Answered}
-use Rattle.text.specs.declared.Part.{Part}
-use Rattle.text.specs.declared.Part.the-variants.{Read, Refused}
+use Rattle.reader.specs.Answers.{commands, Marked, marked, Answered}
+use Rattle.reader.specs.declared.Part.{Part}
+use Rattle.reader.specs.declared.Part.the-variants.{Read, Refused}
 
 -- ---- How many are named
 
@@ -40,10 +40,6 @@ count-marks named m h =
 -- ---- The call's answers
 
 module _ (text : List ℕ) where
-  pub too-long : 4096 < length text → refused 6 0 ≡ read-call text
-  unfolding read-call read-text and-then
-  too-long h = rw (lt-leb (length text) 4096 h)
-
   module _ (short : length text ≤ 4096) where
     -- The command is refused,
     pub call-refused : (o : Outcome ℕ Refusal Command) → command text 64 0 ≡ o → {r : Part} (m m′ : List ℕ) {k p : ℕ}

@@ -10,30 +10,30 @@ use borrow.Author.Needs.{needs}
 use borrow.Fn.Kinds.{In}
 use borrow.Fn.PlainCycle.{Measures, is, falls, and}
 use lib.Dec.{eqb}
 use Rattle.text.specs.Syntax.{Condition, Bc, Not, And}
 use Rattle.text.specs.Reading.{decline, operand, condition-of}
 use Rattle.text.specs.Reading.{condition as reading}
 use Rattle.text.specs.Sizes.{condition-records, condition-depth, condition-names}
 use Rattle.text.specs.Encoding.{Bytes}
-use Rattle.text.specs.Answers.{conditions, values}
+use Rattle.reader.specs.Answers.{conditions, values}
 use Rattle.text.proofs.Heads as heads
 use Rattle.text.proofs.Heads.{is-truth, is-negation, is-conjunction, is-comparison, is-no-condition}
-use Rattle.text.proofs.Parts.{next-given, after, Alike, declines, one, first-ends, two}
-use Rattle.text.proofs.Bounds.{room, condition-small}
-use Rattle.text.proofs.condition.Reads as condition
-use Rattle.text.proofs.condition.Kinds as condition-kinds
-use Rattle.text.proofs.+condition+conjunction+negation.Lts-condition as condition-lts
-use Rattle.text.proofs.conjunction.Reads as conjunction
-use Rattle.text.proofs.conjunction.Kinds as conjunction-kinds
-use Rattle.text.proofs.+condition+conjunction+negation.Lts-conjunction as conjunction-lts
-use Rattle.text.proofs.negation.Reads as negation
-use Rattle.text.proofs.negation.Kinds as negation-kinds
-use Rattle.text.proofs.+condition+conjunction+negation.Lts-negation as negation-lts
-use Rattle.text.proofs.joined.Reads as joined-reads
-use Rattle.text.proofs.two_expressions.Reads as two-expressions-reads
-use Rattle.text.proofs.value.Reads as value-reads
-use Rattle.text.proofs.+condition+conjunction+negation.{statement}
-use Rattle.text.proofs.+condition+conjunction+negation.Tie.{close}
+use Rattle.reader.proofs.Parts.{next-given, after, Alike, declines, one, first-ends, two}
+use Rattle.reader.proofs.Bounds.{room, condition-small}
+use Rattle.reader.proofs.condition.Reads as condition
+use Rattle.reader.proofs.condition.Kinds as condition-kinds
+use Rattle.reader.proofs.+condition+conjunction+negation.Lts-condition as condition-lts
+use Rattle.reader.proofs.conjunction.Reads as conjunction
+use Rattle.reader.proofs.conjunction.Kinds as conjunction-kinds
+use Rattle.reader.proofs.+condition+conjunction+negation.Lts-conjunction as conjunction-lts
+use Rattle.reader.proofs.negation.Reads as negation
+use Rattle.reader.proofs.negation.Kinds as negation-kinds
+use Rattle.reader.proofs.+condition+conjunction+negation.Lts-negation as negation-lts
+use Rattle.reader.proofs.joined.Reads as joined-reads
+use Rattle.reader.proofs.two_expressions.Reads as two-expressions-reads
+use Rattle.reader.proofs.value.Reads as value-reads
+use Rattle.reader.proofs.+condition+conjunction+negation.{statement}
+use Rattle.reader.proofs.+condition+conjunction+negation.Tie.{close}
 
 -- ---- Sizes
 

@@ -6,15 +6,15 @@ use Prim.Native.Nat.{ℕ, _≤_}
 use mathlib.Core.Path.{refl}
 use native.Mathlib.Omega.{arith}
 use borrow.Author.Needs.{needs}
 use Rattle.text.specs.Syntax.{Expression, Constant, Variable, Plus, _:=_}
 use Rattle.text.specs.Reading.{command-of, operand, expression}
 use Rattle.text.specs.Sizes.{records, expression-depth, depth, names}
 use Rattle.text.specs.Encoding.{Bytes}
-use Rattle.text.specs.Answers.{variables, expressions, commands}
-use Rattle.text.proofs.Parts.{next-given, after, Alike, first-ends, two}
-use Rattle.text.proofs.Bounds.{room, variable-small, expression-small}
-use Rattle.text.proofs.assignment.Statement.{statement}
-use Rattle.text.proofs.assignment.Tie as tie
+use Rattle.reader.specs.Answers.{variables, expressions, commands}
+use Rattle.reader.proofs.Parts.{next-given, after, Alike, first-ends, two}
+use Rattle.reader.proofs.Bounds.{room, variable-small, expression-small}
+use Rattle.reader.proofs.assignment.Statement.{statement}
+use Rattle.reader.proofs.assignment.Tie as tie
 
 some-depth : (a : Expression) → 1 ≤ expression-depth a
 unfolding expression-depth

@@ -1,0 +1,395 @@
+// Profile texts: reading a text's bytes.
+ghost use mathlib.Core.Path.{_≡_};
+ghost use mathlib.Core.List.{List};
+ghost use mathlib.Core.Bool.{Bool, Bool·beq};
+ghost use Prim.Native.Nat.{ℕ, _≤_, _<_, max};
+ghost use lib.ListN.{length};
+ghost use Rattle.base.specs.Acts.{if_then_else_};
+ghost use Rattle.text.specs.Reading.{number, operand, expression, condition, command};
+ghost use Rattle.text.specs.Reading.{plus, negation, conjunction, comparison};
+ghost use Rattle.text.specs.Reading.{assignment, sequence, choice, loop};
+ghost use Rattle.text.specs.Sizes.{how-many};
+ghost use Rattle.text.specs.Calls.{read-call};
+ghost use Rattle.reader.specs.Answers.{Answered, expressions, conditions, commands, numbers, variables, values};
+ghost use Rattle.reader.specs.Answers.{Given, expression-parts, condition-parts, command-parts};
+ghost use Rattle.reader.specs.Answers.{together, Room, marked};
+ghost use Rattle.text.specs.Answers.{answer};
+use text::Reading;
+
+// What reading a part comes to: the position after it, its record count and its depth bound; or a refusal.
+pub enum Part {
+    Read {
+        next: usize,
+        records: usize,
+        depth: usize,
+    },
+    Refused {
+        number: u8,
+        place: usize,
+    },
+}
+
+// ---- Two parts in a row
+
+fn larger(x: usize, y: usize) -> usize
+    ensures { λ r. ⌜ r ≡ max x y ⌝ }
+{
+    if x <= y { y } else { x }
+}
+
+// Two parts as one, with `more` records besides; the second's depth is raised by `lift`.
+fn joined(first: Part, second: Part, more: usize, lift: usize) -> Part
+    requires { ⌜ Room first second more lift ⌝ }
+    ensures { λ r. ⌜ r ≡ together first second more lift ⌝ }
+{
+    let Part::Read { records, depth, .. } = first else {
+        return first;
+    };
+    let Part::Read {
+        next,
+        records: others,
+        depth: other,
+    } = second
+    else {
+        return second;
+    };
+    Part::Read {
+        next,
+        records: records + others + more,
+        depth: larger(depth, other + lift),
+    }
+}
+
+// ---- Operands. Variables that are named are marked, by 1, in `named`, a byte for each of the 64.
+
+// A constant's four bytes.
+fn constant(text: &[u8], at: usize) -> Part
+    requires { ⌜ at ≤ length (now text) ⌝ }
+    ensures { λ r. ⌜ ((m : List ℕ) → Answered numbers (number (now (text .entry)) at) r m m) ⌝ }
+{
+    if text.len() - at < 4 {
+        return Part::Refused {
+            number: 1,
+            place: text.len(),
+        };
+    }
+    Part::Read {
+        next: at + 4,
+        records: 1,
+        depth: 1,
+    }
+}
+
+// A variable's byte.
+fn variable(text: &[u8], at: usize, named: &mut [u8; 64]) -> Part
+    requires { ⌜ length (now named) ≡ 64 ⌝ }
+    ensures { λ r. ⌜ Answered variables (operand (now (text .entry)) 63 at) r
+        (now (named .entry)) (now (named .exit)) ⌝ }
+{
+    if text.len() <= at {
+        return Part::Refused {
+            number: 1,
+            place: text.len(),
+        };
+    }
+    let v = text[at];
+    if 63 < v {
+        return Part::Refused {
+            number: 3,
+            place: at,
+        };
+    }
+    named[v as usize] = 1;
+    Part::Read {
+        next: at + 1,
+        records: 1,
+        depth: 1,
+    }
+}
+
+// How many records Bc gives: one if its value equals the flag.
+fn value_records(value: bool, flag: bool) -> usize
+    ensures { λ r. ⌜ r ≡ (if Bool·beq value flag then 1 else 0) ⌝ }
+{
+    if value {
+        if flag { 1 } else { 0 }
+    } else {
+        if flag { 0 } else { 1 }
+    }
+}
+
+// Bc's byte, under a flag.
+fn value(text: &[u8], at: usize, flag: bool) -> Part
+    ensures { λ r. ⌜ ((m : List ℕ) → Answered (values flag) (operand (now (text .entry)) 1 at) r m m) ⌝ }
+{
+    if text.len() <= at {
+        return Part::Refused {
+            number: 1,
+            place: text.len(),
+        };
+    }
+    let v = text[at];
+    if 1 < v {
+        return Part::Refused {
+            number: 3,
+            place: at,
+        };
+    }
+    Part::Read {
+        next: at + 1,
+        records: value_records(v == 1, flag),
+        depth: 0,
+    }
+}
+
+// ---- Expressions. `left` is the nesting left; it falls from a construct to its parts. A helper is given the position
+// of the construct's first byte, and the nesting left for the parts.
+
+// The two expressions of a Plus or a Less.
+fn two_expressions(text: &[u8], at: usize, left: usize, named: &mut [u8; 64]) -> Part
+    requires { ⌜ Given (now text) (now named) ⌝ }
+    requires { ⌜ at < length (now text) ⌝ }
+    ensures { λ r. ⌜ Answered expressions (expression-parts (now (text .entry)) left plus at) r
+        (now (named .entry)) (now (named .exit)) ⌝ }
+    ensures { λ r. ⌜ ((flag : Bool) → Answered (conditions flag)
+        (condition-parts (now (text .entry)) left comparison at) r (now (named .entry)) (now (named .exit))) ⌝ }
+{
+    let first = expression(text, at + 1, left, named);
+    let Part::Read { next, .. } = first else {
+        return first;
+    };
+    joined(first, expression(text, next, left, named), 1, 1)
+}
+
+fn expression(text: &[u8], at: usize, left: usize, named: &mut [u8; 64]) -> Part
+    requires { ⌜ Given (now text) (now named) ⌝ }
+    ensures { λ r. ⌜ Answered expressions (expression (now (text .entry)) left at) r
+        (now (named .entry)) (now (named .exit)) ⌝ }
+{
+    if text.len() <= at {
+        return Part::Refused {
+            number: 1,
+            place: text.len(),
+        };
+    }
+    if left == 0 {
+        return Part::Refused {
+            number: 4,
+            place: at,
+        };
+    }
+    let byte = text[at];
+    match byte {
+        0x10 => constant(text, at + 1),
+        0x11 => variable(text, at + 1, named),
+        0x12 => two_expressions(text, at, left - 1, named),
+        _ => Part::Refused {
+            number: 2,
+            place: at,
+        },
+    }
+}
+
+// ---- Conditions, under a flag
+
+// Not: a condition under the other flag.
+fn negation(text: &[u8], at: usize, left: usize, flag: bool, named: &mut [u8; 64]) -> Part
+    requires { ⌜ Given (now text) (now named) ⌝ }
+    requires { ⌜ at < length (now text) ⌝ }
+    ensures { λ r. ⌜ Answered (conditions flag) (condition-parts (now (text .entry)) left negation at) r
+        (now (named .entry)) (now (named .exit)) ⌝ }
+{
+    condition(text, at + 1, left, !flag, named)
+}
+
+// And: a condition under false, and one under And's own flag.
+fn conjunction(text: &[u8], at: usize, left: usize, flag: bool, named: &mut [u8; 64]) -> Part
+    requires { ⌜ Given (now text) (now named) ⌝ }
+    requires { ⌜ at < length (now text) ⌝ }
+    ensures { λ r. ⌜ Answered (conditions flag) (condition-parts (now (text .entry)) left conjunction at) r
+        (now (named .entry)) (now (named .exit)) ⌝ }
+{
+    let first = condition(text, at + 1, left, false, named);
+    let Part::Read { next, .. } = first else {
+        return first;
+    };
+    joined(first, condition(text, next, left, flag, named), 0, 0)
+}
+
+fn condition(text: &[u8], at: usize, left: usize, flag: bool, named: &mut [u8; 64]) -> Part
+    requires { ⌜ Given (now text) (now named) ⌝ }
+    ensures { λ r. ⌜ Answered (conditions flag) (condition (now (text .entry)) left at) r
+        (now (named .entry)) (now (named .exit)) ⌝ }
+{
+    if text.len() <= at {
+        return Part::Refused {
+            number: 1,
+            place: text.len(),
+        };
+    }
+    if left == 0 {
+        return Part::Refused {
+            number: 4,
+            place: at,
+        };
+    }
+    let byte = text[at];
+    match byte {
+        0x20 => value(text, at + 1, flag),
+        0x21 => negation(text, at, left - 1, flag, named),
+        0x22 => conjunction(text, at, left - 1, flag, named),
+        0x23 => two_expressions(text, at, left - 1, named),
+        _ => Part::Refused {
+            number: 2,
+            place: at,
+        },
+    }
+}
+
+// ---- Commands
+
+// Assign: a variable and an expression.
+fn assignment(text: &[u8], at: usize, left: usize, named: &mut [u8; 64]) -> Part
+    requires { ⌜ Given (now text) (now named) ⌝ }
+    requires { ⌜ at < length (now text) ⌝ }
+    ensures { λ r. ⌜ Answered commands (command-parts (now (text .entry)) left assignment at) r
+        (now (named .entry)) (now (named .exit)) ⌝ }
+{
+    let first = variable(text, at + 1, named);
+    let Part::Read { next, .. } = first else {
+        return first;
+    };
+    joined(first, expression(text, next, left, named), 0, 0)
+}
+
+// Sequence: two commands.
+fn sequence(text: &[u8], at: usize, left: usize, named: &mut [u8; 64]) -> Part
+    requires { ⌜ Given (now text) (now named) ⌝ }
+    requires { ⌜ at < length (now text) ⌝ }
+    ensures { λ r. ⌜ Answered commands (command-parts (now (text .entry)) left sequence at) r
+        (now (named .entry)) (now (named .exit)) ⌝ }
+{
+    let first = command(text, at + 1, left, named);
+    let Part::Read { next, .. } = first else {
+        return first;
+    };
+    joined(first, command(text, next, left, named), 0, 0)
+}
+
+// IF: a condition, two commands, and the record that passes the second.
+fn choice(text: &[u8], at: usize, left: usize, named: &mut [u8; 64]) -> Part
+    requires { ⌜ Given (now text) (now named) ⌝ }
+    requires { ⌜ at < length (now text) ⌝ }
+    ensures { λ r. ⌜ Answered commands (command-parts (now (text .entry)) left choice at) r
+        (now (named .entry)) (now (named .exit)) ⌝ }
+{
+    let test = condition(text, at + 1, left, false, named);
+    let Part::Read { next, .. } = test else {
+        return test;
+    };
+    let first = command(text, next, left, named);
+    let Part::Read { next, .. } = first else {
+        return first;
+    };
+    let second = command(text, next, left, named);
+    joined(test, joined(first, second, 0, 0), 1, 0)
+}
+
+// WHILE: a condition, a command, and the record that goes back.
+fn repetition(text: &[u8], at: usize, left: usize, named: &mut [u8; 64]) -> Part
+    requires { ⌜ Given (now text) (now named) ⌝ }
+    requires { ⌜ at < length (now text) ⌝ }
+    ensures { λ r. ⌜ Answered commands (command-parts (now (text .entry)) left loop at) r
+        (now (named .entry)) (now (named .exit)) ⌝ }
+{
+    let test = condition(text, at + 1, left, false, named);
+    let Part::Read { next, .. } = test else {
+        return test;
+    };
+    joined(test, command(text, next, left, named), 1, 0)
+}
+
+fn command(text: &[u8], at: usize, left: usize, named: &mut [u8; 64]) -> Part
+    requires { ⌜ Given (now text) (now named) ⌝ }
+    ensures { λ r. ⌜ Answered commands (command (now (text .entry)) left at) r
+        (now (named .entry)) (now (named .exit)) ⌝ }
+{
+    if text.len() <= at {
+        return Part::Refused {
+            number: 1,
+            place: text.len(),
+        };
+    }
+    if left == 0 {
+        return Part::Refused {
+            number: 4,
+            place: at,
+        };
+    }
+    let byte = text[at];
+    match byte {
+        0x00 => Part::Read {
+            next: at + 1,
+            records: 0,
+            depth: 0,
+        },
+        0x01 => assignment(text, at, left - 1, named),
+        0x02 => sequence(text, at, left - 1, named),
+        0x03 => choice(text, at, left - 1, named),
+        0x04 => repetition(text, at, left - 1, named),
+        _ => Part::Refused {
+            number: 2,
+            place: at,
+        },
+    }
+}
+
+// ---- A whole text
+
+// How many variables are marked.
+fn count_named(named: &[u8]) -> usize
+    ensures { λ r. ⌜ r ≡ how-many (marked (now (named .entry))) (length (now (named .entry))) ⌝ }
+{
+    let mut n: usize = 0;
+    let mut i: usize = 0;
+    while i < named.len() {
+        if named[i] == 1 {
+            n += 1;
+        }
+        i += 1;
+    }
+    n
+}
+
+// Reads a text: its sizes, or its refusal.
+pub fn read(text: &[u8]) -> Reading
+    ensures { λ r. ⌜ answer r ≡ read-call (now (text .entry)) ⌝ }
+{
+    if text::LONGEST < text.len() {
+        return Reading::Refused {
+            number: 6,
+            place: 0,
+        };
+    }
+    let mut named = [0u8; 64];
+    match command(text, 0, text::DEEPEST, &mut named) {
+        Part::Refused { number, place } => Reading::Refused { number, place },
+        Part::Read {
+            next,
+            records,
+            depth,
+        } => {
+            if next < text.len() {
+                return Reading::Refused {
+                    number: 5,
+                    place: next,
+                };
+            }
+            Reading::Accepted {
+                records,
+                depth,
+                cells: count_named(&named),
+            }
+        }
+    }
+}
