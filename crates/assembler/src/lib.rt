@@ -7,8 +7,8 @@ ghost use Prim.Native.Nat.{_+_, _<_};
 ghost use lib.IntN.{negsuc};
 ghost use lib.ListN.{getD};
 ghost use Rattle.base.specs.Acts.{if_then_else_};
-ghost use Rattle.text.specs.Answers.{answer};
-ghost use Rattle.text.specs.Reading.{expression, condition, command};
+ghost use Rattle.text.specs.Answers.{answer, expression-parts};
+ghost use Rattle.text.specs.Reading.{plus, expression, condition, command};
 ghost use Rattle.text.specs.Sizes.{expression-records, condition-records};
 ghost use Rattle.compile.specs.Compilation.{acomp, ccomp};
 ghost use Rattle.compile.specs.Calls.{assemble};
@@ -37,6 +37,20 @@ pub struct Part {
 
 // ---- Sizes
 
+// How many records the two expressions of a Plus or a Less have, and one more; `left` is the nesting left for them.
+fn two_sizes(text: &[u8], at: usize, left: usize) -> Part
+    requires { ⌜ Countable expression-records (expression-parts (now text) left plus at) ⌝ }
+    ensures { λ r. ⌜ Counts expression-records (expression-parts (now (text .entry)) left plus at) r ⌝ }
+{
+    let first = expression_size(text, at + 1, left);
+    let middle = first.next;
+    let second = expression_size(text, middle, left);
+    Part {
+        next: second.next,
+        records: first.records + second.records + 1,
+    }
+}
+
 // How many records an expression has.
 fn expression_size(text: &[u8], at: usize, left: usize) -> Part
     requires { ⌜ Countable expression-records (expression (now text) left at) ⌝ }
@@ -55,13 +69,7 @@ fn expression_size(text: &[u8], at: usize, left: usize) -> Part
             records: 1,
         };
     }
-    let first = expression_size(text, at + 1, left - 1);
-    let middle = first.next;
-    let second = expression_size(text, middle, left - 1);
-    Part {
-        next: second.next,
-        records: first.records + second.records + 1,
-    }
+    two_sizes(text, at, left - 1)
 }
 
 // How many records Bc has under a flag: one if its value equals the flag.
@@ -72,6 +80,30 @@ fn value_size(value: bool, flag: bool) -> usize
         if flag { 1 } else { 0 }
     } else {
         if flag { 0 } else { 1 }
+    }
+}
+
+// How many records a Not has under a flag: its condition's under the other flag.
+fn inverse_size(text: &[u8], at: usize, left: usize, flag: bool) -> Part
+    requires { ⌜ getD (now text) at 0 ≡ 0x21 ⌝ }
+    requires { ⌜ Countable (λ b. condition-records b flag) (condition (now text) left at) ⌝ }
+    ensures { λ r. ⌜ Counts (λ b. condition-records b flag) (condition (now (text .entry)) left at) r ⌝ }
+{
+    condition_size(text, at + 1, left - 1, !flag)
+}
+
+// How many records an And has under a flag: its left side's under false, and its right side's under the flag.
+fn both_size(text: &[u8], at: usize, left: usize, flag: bool) -> Part
+    requires { ⌜ getD (now text) at 0 ≡ 0x22 ⌝ }
+    requires { ⌜ Countable (λ b. condition-records b flag) (condition (now text) left at) ⌝ }
+    ensures { λ r. ⌜ Counts (λ b. condition-records b flag) (condition (now (text .entry)) left at) r ⌝ }
+{
+    let first = condition_size(text, at + 1, left - 1, false);
+    let middle = first.next;
+    let second = condition_size(text, middle, left - 1, flag);
+    Part {
+        next: second.next,
+        records: first.records + second.records,
     }
 }
 
@@ -88,24 +120,12 @@ fn condition_size(text: &[u8], at: usize, left: usize, flag: bool) -> Part
         };
     }
     if byte == 0x21 {
-        return condition_size(text, at + 1, left - 1, !flag);
+        return inverse_size(text, at, left, flag);
     }
     if byte == 0x22 {
-        let first = condition_size(text, at + 1, left - 1, false);
-        let middle = first.next;
-        let second = condition_size(text, middle, left - 1, flag);
-        return Part {
-            next: second.next,
-            records: first.records + second.records,
-        };
+        return both_size(text, at, left, flag);
     }
-    let first = expression_size(text, at + 1, left - 1);
-    let middle = first.next;
-    let second = expression_size(text, middle, left - 1);
-    Part {
-        next: second.next,
-        records: first.records + second.records + 1,
-    }
+    two_sizes(text, at, left - 1)
 }
 
 // ---- Expressions

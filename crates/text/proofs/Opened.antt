@@ -69,7 +69,7 @@ pub record Two {A B C : Type 0} (x : Reading A) (y : Reader B) (h : A → B → 
   pub second : y middle ≡ ok two n
   pub is : c ≡ h one two
 
-two : {A B C : Type 0} (x : Reading A) (y : Reader B) (h : A → B → C) {c : C} {n : ℕ}
+pub two : {A B C : Type 0} (x : Reading A) (y : Reader B) (h : A → B → C) {c : C} {n : ℕ}
     → then′ x (λ a i. then′ (y i) (λ b. give (h a b))) ≡ ok c n → Two x y h c n
 two x y h e =
     let a = after x _ e in
