@@ -7,7 +7,8 @@ ghost use Prim.Native.Nat.{_+_, _<_};
 ghost use lib.IntN.{negsuc};
 ghost use lib.ListN.{getD};
 ghost use Rattle.base.specs.Acts.{if_then_else_};
-ghost use Rattle.text.specs.Answers.{answer, expression-parts};
+ghost use Rattle.text.specs.Answers.{answer};
+ghost use Rattle.reader.specs.Answers.{expression-parts};
 ghost use Rattle.text.specs.Reading.{plus, expression, condition, command};
 ghost use Rattle.text.specs.Sizes.{expression-records, condition-records};
 ghost use Rattle.compile.specs.Compilation.{acomp, ccomp};
@@ -107,6 +108,15 @@ fn both_size(text: &[u8], at: usize, left: usize, flag: bool) -> Part
     }
 }
 
+// How many records a Less has, under either flag: its two sides', and one more.
+fn less_size(text: &[u8], at: usize, left: usize, flag: bool) -> Part
+    requires { ⌜ getD (now text) at 0 ≡ 0x23 ⌝ }
+    requires { ⌜ Countable (λ b. condition-records b flag) (condition (now text) left at) ⌝ }
+    ensures { λ r. ⌜ Counts (λ b. condition-records b flag) (condition (now (text .entry)) left at) r ⌝ }
+{
+    two_sizes(text, at, left - 1)
+}
+
 // How many records a condition has under a flag.
 fn condition_size(text: &[u8], at: usize, left: usize, flag: bool) -> Part
     requires { ⌜ Countable (λ b. condition-records b flag) (condition (now text) left at) ⌝ }
@@ -125,7 +135,7 @@ fn condition_size(text: &[u8], at: usize, left: usize, flag: bool) -> Part
     if byte == 0x22 {
         return both_size(text, at, left, flag);
     }
-    two_sizes(text, at, left - 1)
+    less_size(text, at, left, flag)
 }
 
 // ---- Expressions

@@ -1,9 +1,7 @@
 -- A condition's size under a flag, by recursion: Not's and And's functions are called with the nesting left, and call
--- for a part with one less. The measure is twice the nesting left, and one more for every condition. Less's two sides
--- are measured as a sum's.
+-- for a part with one less. The measure is twice the nesting left, and one more for every condition.
 use mathlib.Core.Path.{_≡_, sym, ap, _∙_}
 use mathlib.Core.Bool.{false}
-use mathlib.Core.List.{List}
 use Prim.Native.Nat.{ℕ, _+_, _-_, _<_}
 use native.Mathlib.Omega.{arith}
 use lib.Dec.{eqb}
@@ -11,15 +9,13 @@ use lib.ListN.{getD}
 use borrow.Author.Needs.{needs}
 use borrow.Fn.Kinds.{In}
 use borrow.Fn.PlainCycle.{Measures, is, falls, and}
-use Rattle.base.specs.Acts.{ok, then′, give}
-use Rattle.text.specs.Syntax.{Plus, Condition, Bc, Not, Less}
-use Rattle.text.specs.Reading.{plus, pass, expression-of, expression, condition}
-use Rattle.text.specs.Sizes.{expression-records, condition-records}
-use Rattle.text.specs.Answers.{expression-parts}
+use Rattle.text.specs.Syntax.{Condition, Bc, Not}
+use Rattle.text.specs.Reading.{condition}
+use Rattle.text.specs.Sizes.{condition-records}
 use Rattle.text.proofs.Opened as text-says
 use Rattle.assembler.proofs.Leaves.{Leaf, leaf}
 use Rattle.assembler.proofs.Counting.{told, Pair, pair, first-countable, second-countable, Both, both}
-use Rattle.assembler.proofs.two_sizes.Reads as two-sizes
+use Rattle.assembler.proofs.less_size.Reads as less-size
 use Rattle.assembler.proofs.value_size.Reads as value-size
 use Rattle.assembler.proofs.condition_size.Reads as condition-size
 use Rattle.assembler.proofs.condition_size.Kinds as kinds
@@ -68,8 +64,8 @@ known t = (
   inverse-size.Post,
   both-below t,
   both-size.Post,
-  two-sizes.Asked,
-  two-sizes.Learnt,
+  less-size.Asked,
+  less-size.Learnt,
 )
 
 abbrev inverse-known : ℕ → inverse-lts.Claims
@@ -79,13 +75,6 @@ abbrev both-known : ℕ → both-lts.Claims
 both-known t = (below t, condition-size.Post)
 
 -- ---- Every condition
-
--- Less's two sides, read as a sum's
-less-read : (text : List ℕ) (left i : ℕ) {b : Condition} {n : ℕ}
-    (p : text-says.Two (expression text left (i + 1)) (expression text left) Less b n)
-    → expression-parts text left plus i ≡ ok (Plus (p .one) (p .two)) n
-unfolding expression-of pass then′ give
-less-read text left i p = rw (p .first, p .second)
 
 module _ (t : ℕ) where
   abbrev Start : Type 0
@@ -114,39 +103,6 @@ module _ (t : ℕ) where
       let s = c .before .before .before .before .before in
       let v = value (c .before .before) in
       told (s .pre .1) (v .ends) (c .value-size .ensures ∙ sym (ap (size s) (v .is)))
-
-  -- ---- Less
-
-  compared : (c : lts.Else3 (known t) (given t) condition-size.Post) → let s = c .before .before .before .before
-      .before in
-      text-says.Two (expression (s .args .text .now) (s .args .left - 1) (s .args .at + 1))
-      (expression (s .args .text .now) (s .args .left - 1)) Less (s .pre .1 .part) (s .pre .1 .next)
-  compared c =
-      let s = c .before .before .before .before .before in
-      let byte = text-says.last-condition (s .args .text .now) (s .args .left) (s .args .at) (s .pre .1 .is)
-      (c .before .before .if1 .left)
-      (c .before .if2 .left) (c .if3 .left) in
-      text-says.less-at (s .args .text .now) (s .args .left) (s .args .at) (s .pre .1 .is) byte
-
-  two-sizes-requires : lts.Need-two-sizes-requires (known t) (given t) condition-size.Post
-  unfolding expression-records condition-records
-  two-sizes-requires c κs =
-      let s = c .before .before .before .before .before in
-      let p = compared c in
-      record {
-        part = Plus (p .one) (p .two);
-        next = _;
-        is = less-read _ _ _ p;
-        few = omega (arith, s .pre .1 .few, ap (size s) (p .is));
-      }
-
-  returns-4 : lts.Need-returns-4 (known t) (given t) condition-size.Post
-  unfolding expression-records condition-records
-  returns-4 c =
-      let s = c .before .before .before .before .before .before in
-      let p = compared (c .before) in
-      let r = c .two-sizes .ensures _ _ (less-read _ _ _ p) in
-      told (s .pre .1) (r .0) (r .1 ∙ sym (ap (size s) (p .is)))
 
 -- ---- Not
 
@@ -246,9 +202,12 @@ pub +both-size+condition-size+inverse-size-spec : {M : Type 1} → statement M
     let s = c .before .before .before .before .before in
     (omega (arith, s .pre .0), (c .if3 .taken, s .pre .1)))
     (λ c. c .both-size .ensures)
-    (λ c. stands t (c .before .before .before .before .before) .nested)
-    (two-sizes-requires t)
-    (returns-4 t))
+    (λ c κs.
+    let s = c .before .before .before .before .before in
+    let byte = text-says.last-condition (s .args .text .now) (s .args .left) (s .args .at) (s .pre .1 .is)
+    (c .before .before .if1 .left) (c .before .if2 .left) (c .if3 .left) in
+    (byte, s .pre .1))
+    (λ c. c .less-size .ensures))
     (λ t.
     inverse-lts.spec (inverse-known t) (inverse-given t) inverse-size.Post
     (λ c. record { fits = omega (arith, not-stands t (c .before) .inside, c .before .good .0 .0) })
