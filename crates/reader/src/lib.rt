@@ -16,16 +16,16 @@ ghost use Rattle.reader.specs.Answers.{together, Room, marked};
 ghost use Rattle.text.specs.Answers.{answer};
 use text::Reading;
 
-// What reading a part comes to: the position after it, its record count and its depth bound; or a refusal.
+// What reading a part comes to: a refusal; or the position after it, its record count and its depth bound.
 pub enum Part {
+    Refused {
+        number: u8,
+        place: usize,
+    },
     Read {
         next: usize,
         records: usize,
         depth: usize,
-    },
-    Refused {
-        number: u8,
-        place: usize,
     },
 }
 
