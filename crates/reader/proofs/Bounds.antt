@@ -24,22 +24,22 @@ use Rattle.text.proofs.Sizes.{expression-short, condition-short, short}
 
 -- An answer's record count and depth bound are at most n
 unfoldable pub Small : ℕ → Part → Type 0
-Small n (Read next k d) = (k ≤ n) × (d ≤ n)
+Small n (Read k d next) = (k ≤ n) × (d ≤ n)
 Small n (Refused number place) = Unit {0}
 
 -- There is room for the sums of two small answers,
-pub room : (n l : ℕ) (r r′ : Part) (more lift : ℕ) → n + l + more + lift < 2 ^ 64 → Small n r → Small l r′
+pub room : (n l : ℕ) (r r′ : Part) (more lift : ℕ) → n + l + more + lift < 2 ^ 16 → Small n r → Small l r′
     → Room r r′ more lift
 unfolding Small Room
-room n l (Read i k d) (Read j k′ d′) more lift h x y = (omega arith, omega arith)
-room n l (Read i k d) (Refused number place) more lift h x y = tt
+room n l (Read k d i) (Read k′ d′ j) more lift h x y = (omega arith, omega arith)
+room n l (Read k d i) (Refused number place) more lift h x y = tt
 room n l (Refused number place) r′ more lift h x y = tt
 
 -- and two small answers are a small answer together.
 pub small-together : (n l : ℕ) (r r′ : Part) → Small n r → Small l r′ → Small (n + l) (together r r′ 0 0)
 unfolding Small together
-small-together n l (Read i k d) (Read j k′ d′) x y = (omega arith, omega arith)
-small-together n l (Read i k d) (Refused number place) x y = tt
+small-together n l (Read k d i) (Read k′ d′ j) x y = (omega arith, omega arith)
+small-together n l (Read k d i) (Refused number place) x y = tt
 small-together n l (Refused number place) r′ x y = tt
 
 -- ---- The depth bound is at most the record count

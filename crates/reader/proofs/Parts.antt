@@ -52,7 +52,7 @@ unfolding Answered
 declines K k p m m′ = refl
 
 pub tells : {A : Type 0} (K : Sized A) (a : A) (n : ℕ) (m m′ : List ℕ) → Marked (K .names a) m m′
-    → Answered K (ok a n) (Read n (K .records a) (K .depth a)) m m′
+    → Answered K (ok a n) (Read (K .records a) (K .depth a) n) m m′
 unfolding Answered
 tells K a n m m′ h = record { is = refl; marks = h }
 
@@ -62,10 +62,10 @@ tells K a n m m′ h = record { is = refl; marks = h }
 record Got {A : Type 0} (K : Sized A) (o : Outcome ℕ Refusal A) (n k d : ℕ) (m m′ : List ℕ) : Type 0 where
   pub part : A
   pub read : o ≡ ok part n
-  pub told : Told (Read n k d) n (K .records part) (K .depth part) (K .names part) m m′
+  pub told : Told (Read k d n) n (K .records part) (K .depth part) (K .names part) m m′
 
 got : {A : Type 0} (K : Sized A) (o : Outcome ℕ Refusal A) {r : Part} {m m′ : List ℕ} {n k d : ℕ}
-    → Answered K o r m m′ → r ≡ Read n k d → Got K o n k d m m′
+    → Answered K o r m m′ → r ≡ Read k d n → Got K o n k d m m′
 unfolding Answered
 got K (ok a i) {n = n} h e =
     let is = h .is in
@@ -75,12 +75,12 @@ got K (ended (refusal k p)) h e = absurd (let no : _≡_ {A = ℕ} 0 1 = cc in o
 
 -- There are as many marks then as before,
 pub as-many : {A : Type 0} (K : Sized A) (o : Outcome ℕ Refusal A) {r : Part} (m m′ : List ℕ) {n k d : ℕ}
-    → Answered K o r m m′ → r ≡ Read n k d → length m′ ≡ length m
+    → Answered K o r m m′ → r ≡ Read k d n → length m′ ≡ length m
 as-many K o m m′ h e = got K o h e .told .marks .kept
 
 -- so the next part is given what this one was.
 pub next-given : {A : Type 0} (K : Sized A) (o : Outcome ℕ Refusal A) {text : List ℕ} {r : Part} {m m′ : List ℕ}
-    {n k d : ℕ} → Given text m → Answered K o r m m′ → r ≡ Read n k d → Given text m′
+    {n k d : ℕ} → Given text m → Answered K o r m m′ → r ≡ Read k d n → Given text m′
 next-given K o {m = m} {m′ = m′} g h e = record { short = g .short; full = as-many K o m m′ h e ∙ g .full }
 
 -- The sizes of b together with those of a part a before it, as the code joins them
@@ -134,8 +134,8 @@ module _ (text : List ℕ) {C : Type 0} (W : Sized C) where
   pub two : {A B : Type 0} (K : Sized A) (Q : Sized B) (f : A → B → C) (x : Reader A) (y : Reader B) (i : ℕ)
       {r : Part} (r′ : Part) (m m′ m″ : List ℕ) (more lift : ℕ) {n k d : ℕ} {s : Part}
       → ((a : A) → Alike (after K a Q more lift) W (f a))
-      → Answered K (x (i + 1)) r m m′ → r ≡ Read n k d → Answered Q (y n) r′ m′ m″
-      → s ≡ together (Read n k d) r′ more lift
+      → Answered K (x (i + 1)) r m m′ → r ≡ Read k d n → Answered Q (y n) r′ m′ m″
+      → s ≡ together (Read k d n) r′ more lift
       → Answered W ((do pass text 1; a ← x; b ← y; give (f a b)) i) s m m″
   unfolding pass then′
   two K Q f x y i r′ m m′ m″ more lift {n} same h e h′ j =
@@ -148,8 +148,8 @@ module _ (text : List ℕ) {C : Type 0} (W : Sized C) where
       (y : Reader B) (z : Reader D) (i : ℕ) {r r′ : Part} (r″ : Part) (m m′ m″ m‴ : List ℕ) (more lift : ℕ)
       {n k d n′ k′ d′ : ℕ} {s t : Part}
       → ((a : A) (b : B) → Alike (after K a (after Q b R 0 0) more lift) W (f a b))
-      → Answered K (x (i + 1)) r m m′ → r ≡ Read n k d → Answered Q (y n) r′ m′ m″ → r′ ≡ Read n′ k′ d′
-      → Answered R (z n′) r″ m″ m‴ → s ≡ together (Read n′ k′ d′) r″ 0 0 → t ≡ together (Read n k d) s more lift
+      → Answered K (x (i + 1)) r m m′ → r ≡ Read k d n → Answered Q (y n) r′ m′ m″ → r′ ≡ Read k′ d′ n′
+      → Answered R (z n′) r″ m″ m‴ → s ≡ together (Read k′ d′ n′) r″ 0 0 → t ≡ together (Read k d n) s more lift
       → Answered W ((do pass text 1; a ← x; b ← y; c ← z; give (f a b c)) i) t m m‴
   unfolding pass then′
   three K Q R f x y z i r″ m m′ m″ m‴ more lift {n} {n′ = n′} same h e h′ e′ h″ j j′ =
@@ -171,7 +171,7 @@ module _ (text : List ℕ) {C : Type 0} (W : Sized C) where
   -- or the second.
   pub second-ends : {A B : Type 0} (K : Sized A) (Q : Sized B) (x : Reader A) (y : Reader B) (f : A → B → Reader C)
       (i : ℕ) {r r′ : Part} (m m′ m″ l : List ℕ) {n k d k′ p : ℕ}
-      → Answered K (x (i + 1)) r m m′ → r ≡ Read n k d → Answered Q (y n) r′ m′ m″ → r′ ≡ Refused k′ p
+      → Answered K (x (i + 1)) r m m′ → r ≡ Read k d n → Answered Q (y n) r′ m′ m″ → r′ ≡ Refused k′ p
       → Answered W ((do pass text 1; a ← x; b ← y; f a b) i) r′ m l
   unfolding pass then′
   second-ends K Q x y f i m m′ m″ l {n} h e h′ e′ =

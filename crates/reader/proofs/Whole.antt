@@ -50,7 +50,7 @@ module _ (text : List ℕ) where
 
     -- or it ends before the text does,
     pub call-left-over : (o : Outcome ℕ Refusal Command) → command text 64 0 ≡ o → {r : Part} (m m′ : List ℕ)
-        {n k d : ℕ} → Answered commands o r m m′ → r ≡ Read n k d → n < length text → refused 5 n ≡ read-call text
+        {n k d : ℕ} → Answered commands o r m m′ → r ≡ Read k d n → n < length text → refused 5 n ≡ read-call text
     unfolding Answered read-call read-text whole and-then
     call-left-over (ok c i) q m m′ {n} h e l =
         let is = h .is in
@@ -60,7 +60,7 @@ module _ (text : List ℕ) where
 
     -- or it is the whole text.
     pub call-accepted : (o : Outcome ℕ Refusal Command) → command text 64 0 ≡ o → {r : Part} (m : List ℕ) {n k d : ℕ}
-        → Answered commands o r (replicate 64 0) m → r ≡ Read n k d → length text ≤ n
+        → Answered commands o r (replicate 64 0) m → r ≡ Read k d n → length text ≤ n
         → gives (record { records = k; depth = d; cells = how-many (marked m) (length m) }) ≡ read-call text
     unfolding Answered read-call read-text whole and-then
     call-accepted (ok c i) q m {n} {k} {d} h e l =

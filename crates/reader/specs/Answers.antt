@@ -54,7 +54,7 @@ marked marks w = eqb (getD marks w 0) 1
 
 -- An answer that a part was read: the position after it, its sizes, and the marks before and after it
 pub record Told (answer : Part) (next records depth : ℕ) (named : ℕ → Bool) (before after : List ℕ) : Type 0 where
-  pub is : answer ≡ Read next records depth
+  pub is : answer ≡ Read records depth next
   pub marks : Marked named before after
 
 -- The code's answer to a reading. A refusal leaves the marks free
@@ -80,12 +80,12 @@ command-parts text left = command-of text (expression text left) (condition text
 
 -- Two parts as one, with `more` records besides, the second's depth raised by `lift`; a refusal stays a refusal
 unfoldable pub together : Part → Part → ℕ → ℕ → Part
-together (Read i k d) (Read j l e) more lift = Read j (k + l + more) (max d (e + lift))
-together (Read i k d) (Refused number place) more lift = Refused number place
+together (Read k d i) (Read l e j) more lift = Read (k + l + more) (max d (e + lift)) j
+together (Read k d i) (Refused number place) more lift = Refused number place
 together (Refused number place) second more lift = Refused number place
 
--- its numbers are within a word
+-- its numbers are within 16 bits
 unfoldable pub Room : Part → Part → ℕ → ℕ → Type 0
-Room (Read i k d) (Read j l e) more lift = (k + l + more < 2 ^ 64) × (e + lift < 2 ^ 64)
-Room (Read i k d) (Refused number place) more lift = Unit {0}
+Room (Read k d i) (Read l e j) more lift = (k + l + more < 2 ^ 16) × (e + lift < 2 ^ 16)
+Room (Read k d i) (Refused number place) more lift = Unit {0}
 Room (Refused number place) second more lift = Unit {0}

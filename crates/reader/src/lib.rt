@@ -16,29 +16,29 @@ ghost use Rattle.reader.specs.Answers.{together, Room, marked};
 ghost use Rattle.text.specs.Answers.{answer};
 use text::Reading;
 
-// What reading a part comes to: a refusal; or the position after it, its record count and its depth bound.
+// What reading a part comes to: a refusal; or its record count, its depth bound and the position after it.
 pub enum Part {
     Refused {
         number: u8,
         place: usize,
     },
     Read {
+        records: u16,
+        depth: u16,
         next: usize,
-        records: usize,
-        depth: usize,
     },
 }
 
 // ---- Two parts in a row
 
-fn larger(x: usize, y: usize) -> usize
+fn larger(x: u16, y: u16) -> u16
     ensures { λ r. ⌜ r ≡ max x y ⌝ }
 {
     if x <= y { y } else { x }
 }
 
 // Two parts as one, with `more` records besides; the second's depth is raised by `lift`.
-fn joined(first: Part, second: Part, more: usize, lift: usize) -> Part
+fn joined(first: Part, second: Part, more: u16, lift: u16) -> Part
     requires { ⌜ Room first second more lift ⌝ }
     ensures { λ r. ⌜ r ≡ together first second more lift ⌝ }
 {
@@ -46,17 +46,17 @@ fn joined(first: Part, second: Part, more: usize, lift: usize) -> Part
         return first;
     };
     let Part::Read {
-        next,
         records: others,
         depth: other,
+        next,
     } = second
     else {
         return second;
     };
     Part::Read {
-        next,
         records: records + others + more,
         depth: larger(depth, other + lift),
+        next,
     }
 }
 
@@ -74,9 +74,9 @@ fn constant(text: &[u8], at: usize) -> Part
         };
     }
     Part::Read {
-        next: at + 4,
         records: 1,
         depth: 1,
+        next: at + 4,
     }
 }
 
@@ -101,14 +101,14 @@ fn variable(text: &[u8], at: usize, named: &mut [u8; 64]) -> Part
     }
     named[v as usize] = 1;
     Part::Read {
-        next: at + 1,
         records: 1,
         depth: 1,
+        next: at + 1,
     }
 }
 
 // How many records Bc gives: one if its value equals the flag.
-fn value_records(value: bool, flag: bool) -> usize
+fn value_records(value: bool, flag: bool) -> u16
     ensures { λ r. ⌜ r ≡ (if Bool·beq value flag then 1 else 0) ⌝ }
 {
     if value {
@@ -136,9 +136,9 @@ fn value(text: &[u8], at: usize, flag: bool) -> Part
         };
     }
     Part::Read {
-        next: at + 1,
         records: value_records(v == 1, flag),
         depth: 0,
+        next: at + 1,
     }
 }
 
@@ -329,9 +329,9 @@ fn command(text: &[u8], at: usize, left: usize, named: &mut [u8; 64]) -> Part
     let byte = text[at];
     match byte {
         0x00 => Part::Read {
-            next: at + 1,
             records: 0,
             depth: 0,
+            next: at + 1,
         },
         0x01 => assignment(text, at, left - 1, named),
         0x02 => sequence(text, at, left - 1, named),
@@ -375,9 +375,9 @@ pub fn read(text: &[u8]) -> Reading
     match command(text, 0, text::DEEPEST, &mut named) {
         Part::Refused { number, place } => Reading::Refused { number, place },
         Part::Read {
-            next,
             records,
             depth,
+            next,
         } => {
             if next < text.len() {
                 return Reading::Refused {
@@ -386,8 +386,8 @@ pub fn read(text: &[u8]) -> Reading
                 };
             }
             Reading::Accepted {
-                records,
-                depth,
+                records: records as usize,
+                depth: depth as usize,
                 cells: count_named(&named),
             }
         }

@@ -44,7 +44,7 @@ use Rattle.reader.proofs.+choice+command+repetition+sequence.Tie.{close
 -- ---- Sizes
 
 skip-told : (text : List ℕ) (i : ℕ) (m : List ℕ)
-    → Answered commands ((do pass text 1; give SKIP) i) (Read (i + 1) 0 0) m m
+    → Answered commands ((do pass text 1; give SKIP) i) (Read 0 0 (i + 1)) m m
 unfolding pass give then′ records depth names
 skip-told text i m = tells commands SKIP (i + 1) m m (marked-none m)
 

@@ -21,11 +21,13 @@ read-spec =
     let x = c .before .before in
     let r = x .before .before in
     let short = r .before .before .if1 .left in
-    call-left-over _ short _ refl _ _ (r .command .ensures) (x .next .given .1) (c .if2 .taken))
+    call-left-over _ short _ refl _ _ (r .command .ensures) (x .records .given .1) (c .if2 .taken))
+    (λ c. search needs)
+    (λ c. search needs)
     (λ c.
     let x = c .before .before .before in
     let r = x .before .before in
-    sym (as-many commands _ _ _ (r .command .ensures) (x .next .given .1)))
+    sym (as-many commands _ _ _ (r .command .ensures) (x .records .given .1)))
     (λ c κs. search needs)
     (λ c.
     let x = c .before in
@@ -38,4 +40,4 @@ read-spec =
     let r = x .before .before in
     let short = r .before .before .if1 .left in
     rw (c .count-named .ensures)
-    (call-accepted _ short _ refl _ (r .command .ensures) (x .next .given .1) (i .if2 .left))))
+    (call-accepted _ short _ refl _ (r .command .ensures) (x .records .given .1) (i .if2 .left))))

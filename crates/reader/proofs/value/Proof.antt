@@ -23,8 +23,8 @@ value-spec =
     (λ c m.
     let a = c .before .before .before .before .args in
     rw (le-leb (a .at + 1) (length (a .text .now)) (omega arith), lt-leb _ 1 (c .if2 .taken)) (declines _ _ _ _ _))
-    (λ c. search needs)
     (λ c κs. search needs)
+    (λ c. search needs)
     (λ c m.
     let a = c .before .before .before .before .before .args in
     rw (
