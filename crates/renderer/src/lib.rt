@@ -2,12 +2,11 @@
 // compiled, loaded, run and read back.
 ghost use Prim.Native.Nat.{ℕ, _*_, _≤_};
 ghost use mathlib.Core.Path.{_≡_};
-ghost use mathlib.Core.List.{_++_};
 ghost use lib.ListN.{length};
 ghost use Rattle.base.specs.Answers.{gives};
 ghost use Rattle.text.specs.Calls.{read-call};
 ghost use Rattle.record.specs.Records.{AssemblyCode, MachineCode};
-ghost use Rattle.printer.specs.Printing.{first-line, record-lines, run-line, value-lines, shown};
+ghost use Rattle.printer.specs.Printing.{shown};
 ghost use Rattle.printer.specs.Answers.{Puts, Codes, sized, ran};
 ghost use Rattle.renderer.specs.Lines.{SomeCodes, lines};
 use base::End;

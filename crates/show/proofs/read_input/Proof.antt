@@ -26,7 +26,8 @@ more-within c =
 
 loop-again : tie.Need-loop-again Inv-loop μ-loop
 loop-again c =
-    (omega (arith, more-within c, c .before .before .before .before .before .buffer .given), omega (arith, c .before .before .before .before .before .buffer .given))
+    let kept = c .before .before .before .before .before .buffer .given in
+    (omega (arith, more-within c, kept), omega (arith, kept))
 
 pub read-input-spec : {M : Type 1} → statement M
 read-input-spec =
