@@ -1,51 +1,16 @@
 //! A plain compiler of texts to assembly: one pass, jumps patched once they know their distance. It refuses what the
 //! proved one refuses.
 
-#[derive(Debug, PartialEq)]
-pub struct Refusal(pub u8, pub usize);
-
-/// Record count, D and n.
-pub type Sizes = (usize, usize, usize);
+use crate::cursor::{Cursor, Refusal, Sizes};
 
 struct Compiler<'a> {
-    text: &'a [u8],
-    at: usize,
+    cursor: Cursor<'a>,
     code: Vec<u8>,
-    named: [bool; 64],
     /// The positions of jumps that wait for their target.
     waiting: Vec<usize>,
 }
 
 impl Compiler<'_> {
-    fn byte(&mut self) -> Result<u8, Refusal> {
-        let byte = *self.text.get(self.at).ok_or(Refusal(1, self.text.len()))?;
-        self.at += 1;
-        Ok(byte)
-    }
-
-    /// A construct's first byte, with so much nesting left.
-    fn first(&mut self, left: usize) -> Result<u8, Refusal> {
-        let byte = self.byte()?;
-        if left == 0 {
-            return Err(Refusal(4, self.at - 1));
-        }
-        Ok(byte)
-    }
-
-    fn operand(&mut self, most: u8) -> Result<u8, Refusal> {
-        let byte = self.byte()?;
-        if byte > most {
-            return Err(Refusal(3, self.at - 1));
-        }
-        Ok(byte)
-    }
-
-    fn variable(&mut self) -> Result<i32, Refusal> {
-        let v = self.operand(63)?;
-        self.named[v as usize] = true;
-        Ok(v as i32)
-    }
-
     fn emit(&mut self, byte: u8, operand: i32) {
         let [a, b, c, d] = operand.to_le_bytes();
         self.code.extend_from_slice(&[byte, a, b, c, d]);
@@ -75,17 +40,15 @@ impl Compiler<'_> {
 
     /// Gives the depth bound.
     fn expression(&mut self, left: usize) -> Result<usize, Refusal> {
-        match self.first(left)? {
+        match self.cursor.first(left)? {
             0x10 => {
-                let bytes = self.text.get(self.at..self.at + 4).ok_or(Refusal(1, self.text.len()))?;
-                let z = i32::from_le_bytes(bytes.try_into().unwrap());
-                self.at += 4;
+                let z = self.cursor.constant()?;
                 self.emit(0x40, z);
                 Ok(1)
             }
             0x11 => {
-                let v = self.variable()?;
-                self.emit(0x41, v);
+                let v = self.cursor.variable()?;
+                self.emit(0x41, v as i32);
                 Ok(1)
             }
             0x12 => {
@@ -93,15 +56,15 @@ impl Compiler<'_> {
                 self.emit(0x42, 0);
                 Ok(depth)
             }
-            _ => Err(Refusal(2, self.at - 1)),
+            _ => self.cursor.unknown(),
         }
     }
 
     /// Waiting jumps are taken where the condition's value is the flag.
     fn condition(&mut self, left: usize, flag: bool) -> Result<usize, Refusal> {
-        match self.first(left)? {
+        match self.cursor.first(left)? {
             0x20 => {
-                if (self.operand(1)? == 1) == flag {
+                if (self.cursor.operand(1)? == 1) == flag {
                     self.jump_later(0x44);
                 }
                 Ok(0)
@@ -124,17 +87,17 @@ impl Compiler<'_> {
                 self.jump_later(if flag { 0x45 } else { 0x46 });
                 Ok(depth)
             }
-            _ => Err(Refusal(2, self.at - 1)),
+            _ => self.cursor.unknown(),
         }
     }
 
     fn command(&mut self, left: usize) -> Result<usize, Refusal> {
-        match self.first(left)? {
+        match self.cursor.first(left)? {
             0x00 => Ok(0),
             0x01 => {
-                let v = self.variable()?;
+                let v = self.cursor.variable()?;
                 let depth = self.expression(left - 1)?;
-                self.emit(0x43, v);
+                self.emit(0x43, v as i32);
                 Ok(depth)
             }
             0x02 => Ok(self.command(left - 1)?.max(self.command(left - 1)?)),
@@ -157,24 +120,19 @@ impl Compiler<'_> {
                 self.patch_from(start);
                 Ok(test.max(body))
             }
-            _ => Err(Refusal(2, self.at - 1)),
+            _ => self.cursor.unknown(),
         }
     }
 }
 
 pub fn assemble(text: &[u8], out: &mut [u8]) -> Result<Sizes, Refusal> {
-    if text.len() > 4096 {
-        return Err(Refusal(6, 0));
-    }
-    let code = Vec::with_capacity(5 * text.len());
-    let mut compiler = Compiler { text, at: 0, code, named: [false; 64], waiting: Vec::new() };
+    let cursor = Cursor::new(text)?;
+    let mut compiler = Compiler { cursor, code: Vec::with_capacity(5 * text.len()), waiting: Vec::new() };
     let depth = compiler.command(64)?;
-    if compiler.at < text.len() {
-        return Err(Refusal(5, compiler.at));
-    }
+    let cells = compiler.cursor.finish()?;
     let code = &compiler.code;
     out.get_mut(..code.len()).ok_or(Refusal(7, 0))?.copy_from_slice(code);
-    Ok((code.len() / 5, depth, compiler.named.iter().filter(|&&named| named).count()))
+    Ok((code.len() / 5, depth, cells))
 }
 
 const LOAD: u8 = 1;

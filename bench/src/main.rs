@@ -1,6 +1,7 @@
 //! One table of ratios: the proved calls beside plain Rust and plain C of the same work, in one run.
 
 mod compiler;
+mod cursor;
 mod executors;
 mod reader;
 mod texts;
@@ -187,7 +188,7 @@ fn machine_executor(loops: &[Text]) {
 
 // ---- Texts and code
 
-fn sizes(packed: u64) -> compiler::Sizes {
+fn sizes(packed: u64) -> cursor::Sizes {
     assert_eq!(packed & 255, 0, "accepted");
     ((packed >> 8 & 0xffff) as usize, (packed >> 24 & 255) as usize, (packed >> 32 & 255) as usize)
 }
