@@ -10,44 +10,9 @@ mod walker;
 use std::hint::black_box;
 use std::time::Instant;
 
+use profile_tests::calls::{self, Answer, End, Ran};
+
 extern "C" {
-    fn probe_run_source(text: *const u8, text_len: usize, store: *mut i32, store_len: usize, budget: u32) -> u64;
-    fn probe_run_assembly(
-        code: *const u8,
-        code_len: usize,
-        store: *mut i32,
-        store_len: usize,
-        stack: *mut i32,
-        stack_len: usize,
-        budget: u32,
-    ) -> u64;
-    fn probe_run_machine(
-        code: *const u8,
-        code_len: usize,
-        memory: *mut i32,
-        memory_len: usize,
-        depth: u64,
-        cells: u64,
-        budget: u32,
-    ) -> u64;
-    fn probe_assemble(text: *const u8, text_len: usize, out: *mut u8, out_len: usize) -> u64;
-    fn profile_read(text: *const u8, text_len: usize) -> u64;
-    fn profile_compile(
-        text: *const u8,
-        text_len: usize,
-        code: *mut u8,
-        code_len: usize,
-        table: *mut u8,
-        table_len: usize,
-    ) -> u64;
-    fn profile_go_back(
-        code: *const u8,
-        code_len: usize,
-        table: *const u8,
-        table_len: usize,
-        out: *mut u8,
-        out_len: usize,
-    ) -> u64;
     fn plain_run_source(text: *const u8, store: *mut i32, budget: u32) -> u64;
     fn plain_run_assembly(
         code: *const u8,
@@ -63,8 +28,9 @@ extern "C" {
 const TICKS: u32 = 20_000_000;
 const ROUNDS: usize = 9;
 const REPEATS: u32 = 2_000;
-/// Spent at the budget, as the probes pack it.
-const SPENT: u64 = 1 << 8 | (TICKS as u64) << 16;
+/// Spent at the budget: of a proved call, and as the plain code packs it.
+const SPENT: Answer<Ran> = Answer::Gives(Ran { end: End::Spent, count: TICKS });
+const PLAIN_SPENT: u64 = 1 << 8 | (TICKS as u64) << 16;
 
 /// A text's name and its bytes.
 type Text = (&'static str, Vec<u8>);
@@ -112,8 +78,7 @@ fn source_executor(loops: &[Text]) {
         let times = medians([
             &mut || {
                 proved = [0; 64];
-                let ran = unsafe { probe_run_source(text.as_ptr(), text.len(), proved.as_mut_ptr(), 64, TICKS) };
-                assert_eq!(ran, SPENT);
+                assert_eq!(calls::run_source(text, &mut proved, TICKS), SPENT);
             },
             &mut || {
                 rust = [0; 64];
@@ -121,7 +86,7 @@ fn source_executor(loops: &[Text]) {
             },
             &mut || {
                 c = [0; 64];
-                assert_eq!(unsafe { plain_run_source(text.as_ptr(), c.as_mut_ptr(), TICKS) }, SPENT);
+                assert_eq!(unsafe { plain_run_source(text.as_ptr(), c.as_mut_ptr(), TICKS) }, PLAIN_SPENT);
             },
         ]);
         assert_eq!((proved, proved), (rust, c));
@@ -135,22 +100,20 @@ fn assembly_executor(loops: &[Text]) {
         let (code, depth, _) = assembled(text);
         let [mut proved, mut rust, mut c] = [const { [0; 64] }; 3];
         let [mut stack, mut rust_stack, mut c_stack] = [vec![0; depth], vec![0; depth], vec![0; depth]];
-        let (code_at, size) = (code.as_ptr(), code.len());
         let times = medians([
             &mut || {
                 proved = [0; 64];
-                let (store, stack_at) = (proved.as_mut_ptr(), stack.as_mut_ptr());
-                let ran = unsafe { probe_run_assembly(code_at, size, store, 64, stack_at, depth, TICKS) };
-                assert_eq!(ran, SPENT);
+                assert_eq!(calls::run_assembly(&code, &mut proved, &mut stack, TICKS), SPENT);
             },
             &mut || {
                 rust = [0; 64];
-                assert_eq!(executors::run_assembly(&code, &mut rust, &mut rust_stack, TICKS), SPENT);
+                assert_eq!(executors::run_assembly(&code, &mut rust, &mut rust_stack, TICKS), PLAIN_SPENT);
             },
             &mut || {
                 c = [0; 64];
                 let (store, stack_at) = (c.as_mut_ptr(), c_stack.as_mut_ptr());
-                assert_eq!(unsafe { plain_run_assembly(code_at, size, store, stack_at, depth, TICKS) }, SPENT);
+                let ran = unsafe { plain_run_assembly(code.as_ptr(), code.len(), store, stack_at, depth, TICKS) };
+                assert_eq!(ran, PLAIN_SPENT);
             },
         ]);
         assert_eq!((proved, proved), (rust, c));
@@ -167,18 +130,17 @@ fn machine_executor(loops: &[Text]) {
         let times = medians([
             &mut || {
                 proved.fill(0);
-                let (d, n, memory) = (depth as u64, cells as u64, proved.as_mut_ptr());
-                let ran = unsafe { probe_run_machine(code.as_ptr(), code.len(), memory, size, d, n, TICKS) };
+                let ran = calls::run_machine(&code, &mut proved, depth as u64, cells as u64, TICKS);
                 assert_eq!(ran, SPENT);
             },
             &mut || {
                 rust.fill(0);
-                assert_eq!(executors::run_machine(&code, &mut rust, depth, TICKS), SPENT);
+                assert_eq!(executors::run_machine(&code, &mut rust, depth, TICKS), PLAIN_SPENT);
             },
             &mut || {
                 c.fill(0);
                 let ran = unsafe { plain_run_machine(code.as_ptr(), code.len(), c.as_mut_ptr(), depth, TICKS) };
-                assert_eq!(ran, SPENT);
+                assert_eq!(ran, PLAIN_SPENT);
             },
         ]);
         assert_eq!((&proved, &proved), (&rust, &c));
@@ -188,16 +150,15 @@ fn machine_executor(loops: &[Text]) {
 
 // ---- Texts and code
 
-fn sizes(packed: u64) -> cursor::Sizes {
-    assert_eq!(packed & 255, 0, "accepted");
-    ((packed >> 8 & 0xffff) as usize, (packed >> 24 & 255) as usize, (packed >> 32 & 255) as usize)
+fn sizes(answer: Answer<calls::Sizes>) -> cursor::Sizes {
+    let Answer::Gives(sizes) = answer else { panic!("{answer:?}") };
+    (sizes.records as usize, sizes.depth as usize, sizes.cells as usize)
 }
 
 /// A text's assembly, with D and n.
 fn assembled(text: &[u8]) -> (Vec<u8>, usize, usize) {
     let mut code = vec![0; 5 * 4096];
-    let (records, depth, cells) =
-        sizes(unsafe { probe_assemble(text.as_ptr(), text.len(), code.as_mut_ptr(), code.len()) });
+    let (records, depth, cells) = sizes(calls::assemble(text, &mut code));
     code.truncate(5 * records);
     (code, depth, cells)
 }
@@ -205,9 +166,7 @@ fn assembled(text: &[u8]) -> (Vec<u8>, usize, usize) {
 /// A text's machine code and table, with D and n.
 fn compiled(text: &[u8]) -> (Vec<u8>, Vec<u8>, usize, usize) {
     let (mut code, mut table) = (vec![0; 5 * 4096], vec![0; 64]);
-    let (code_at, table_at) = (code.as_mut_ptr(), table.as_mut_ptr());
-    let packed = unsafe { profile_compile(text.as_ptr(), text.len(), code_at, code.len(), table_at, 64) };
-    let (records, depth, cells) = sizes(packed);
+    let (records, depth, cells) = sizes(calls::compile(text, &mut code, &mut table));
     code.truncate(5 * records);
     (code, table, depth, cells)
 }
@@ -219,10 +178,10 @@ fn repeat(mut work: impl FnMut()) -> impl FnMut() {
 fn reading(texts: &[Text]) {
     heading("read, ns per text", &["plain Rust"]);
     for (name, text) in texts {
-        assert_eq!(Ok(sizes(unsafe { profile_read(text.as_ptr(), text.len()) })), reader::read(text));
+        assert_eq!(Ok(sizes(calls::read(text))), reader::read(text));
         let times = medians([
             &mut repeat(|| {
-                black_box(unsafe { profile_read(black_box(text.as_ptr()), text.len()) });
+                black_box(calls::read(black_box(text)));
             }),
             &mut repeat(|| {
                 black_box(reader::read(black_box(text))).unwrap();
@@ -238,8 +197,7 @@ fn assembling(texts: &[Text]) {
         let [mut proved, mut rust] = [vec![0; 5 * 4096], vec![0; 5 * 4096]];
         let times = medians([
             &mut repeat(|| {
-                let (out, room) = (proved.as_mut_ptr(), proved.len());
-                black_box(unsafe { probe_assemble(black_box(text.as_ptr()), text.len(), out, room) });
+                black_box(calls::assemble(black_box(text), &mut proved));
             }),
             &mut repeat(|| {
                 black_box(compiler::assemble(black_box(text), &mut rust)).unwrap();
@@ -257,8 +215,7 @@ fn compiling(texts: &[Text]) {
         let [mut table, mut rust_table] = [[0; 64]; 2];
         let times = medians([
             &mut repeat(|| {
-                let (out, room, table_at) = (proved.as_mut_ptr(), proved.len(), table.as_mut_ptr());
-                black_box(unsafe { profile_compile(black_box(text.as_ptr()), text.len(), out, room, table_at, 64) });
+                black_box(calls::compile(black_box(text), &mut proved, &mut table));
             }),
             &mut repeat(|| {
                 black_box(compiler::compile(black_box(text), &mut rust, &mut rust_table)).unwrap();
@@ -276,8 +233,7 @@ fn going_back(texts: &[Text]) {
         let [mut proved, mut rust] = [vec![0; code.len()], vec![0; code.len()]];
         let times = medians([
             &mut repeat(|| {
-                let (code_at, size, out, room) = (black_box(code.as_ptr()), code.len(), proved.as_mut_ptr(), code.len());
-                black_box(unsafe { profile_go_back(code_at, size, table.as_ptr(), 64, out, room) });
+                black_box(calls::go_back(black_box(&code), &table, &mut proved));
             }),
             &mut repeat(|| {
                 black_box(compiler::go_back(black_box(&code), &table, &mut rust)).unwrap();
