@@ -1,5 +1,3 @@
-pub mod Passing
-pub mod Steps
-pub mod Compound
+pub mod Commands
 pub mod Loops
 pub mod Whole

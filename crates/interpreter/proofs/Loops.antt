@@ -13,9 +13,10 @@ use Rattle.text.specs.Syntax.{Condition, Command, _⨾_, WHILE_DO_}
 use Rattle.text.specs.Reading.{Refusal, Reader, command}
 use Rattle.text.proofs.Opened.{Two}
 use Rattle.source.specs.Rules.{State, Store, state, Outcomes}
-use Rattle.interpreter.specs.Placed.{Read, _upto_, placed}
-use Rattle.interpreter.proofs.Steps.{gave}
-use Rattle.interpreter.proofs.Compound.{under, doing, sequence-read, sequence-ok, body-at}
+use Rattle.evaluator.specs.Placed.{Read, _upto_, placed}
+use Rattle.evaluator.proofs.Steps.{gave}
+use Rattle.evaluator.proofs.Compound.{under}
+use Rattle.interpreter.proofs.Commands.{doing, sequence-read, sequence-ok, body-at}
 use Rattle.source.proofs.Ticks.{Low, low-truth, low-exec}
 
 pub not-true : (v : Bool) → not v ≡ true → v ≡ false

@@ -1,328 +1,28 @@
 // The source executor: a profile text is run as it stands, by the source rules.
 ghost use mathlib.Core.Path.{_≡_};
-ghost use mathlib.Core.Bool.{Bool};
 ghost use mathlib.Core.List.{List};
-ghost use Prim.Native.Nat.{ℕ, _+_, _≤_, _<_};
-ghost use lib.Dec.{eqb};
+ghost use Prim.Native.Nat.{_<_};
 ghost use lib.IntN.{ℤ};
 ghost use lib.ListN.{length, getD};
-ghost use lib.Signed.{ltZ};
-ghost use Rattle.base.specs.Acts.{then′, give};
+ghost use Rattle.base.specs.Acts.{then′};
 ghost use Rattle.base.specs.Runs.{run-answer};
-ghost use Rattle.word.specs.Numbers.{number-at};
 ghost use Rattle.word.specs.Sums.{sum32};
-ghost use Rattle.text.specs.Syntax.{Constant, Variable, Bc};
-ghost use Rattle.text.specs.Reading.{expression, condition, command};
-ghost use Rattle.source.specs.Rules.{state, tick, add, assign, value, truth, exec};
-ghost use Rattle.interpreter.specs.Placed.{Read, placed, reaching, inverse, Row};
-ghost use Rattle.interpreter.specs.Answers.{valued, tested, went};
+ghost use Rattle.text.specs.Reading.{command};
+ghost use Rattle.source.specs.Rules.{state, tick, assign, exec};
 ghost use Rattle.source.specs.Calls.{run-source};
+ghost use Rattle.evaluator.specs.Placed.{Read, placed, reaching};
+ghost use Rattle.interpreter.specs.Answers.{went};
 use base::End;
 use base::Run;
+use evaluator::Early;
+use evaluator::Truth;
+use evaluator::Value;
 use text::Reading;
-use word::Sum;
-
-// Why a run ended that is not done.
-enum Early {
-    Spent,
-    OutOfRange,
-}
-
-// What an expression comes to: its value, the position after it and the ticks left; or the end of the run.
-enum Value {
-    Of { value: i32, next: usize, left: u32 },
-    Ended { end: Early, left: u32 },
-}
-
-// What a condition comes to.
-enum Truth {
-    Of { value: bool, next: usize, left: u32 },
-    Ended { end: Early, left: u32 },
-}
 
 // What a command comes to: the run goes on after it, or has ended.
 enum Progress {
     On { next: usize, left: u32 },
     Ended { end: Early, left: u32 },
-}
-
-// ---- Expressions
-
-// The constant at a position: one tick.
-fn constant(text: &[u8], at: usize, left: u32) -> Value
-    requires { ⌜ at + 5 ≤ length (now text) ⌝ }
-    ensures { λ r. ⌜ ((m : List ℤ) → valued r m
-        ≡ reaching (at + 5) (value sum32 (Constant (number-at (now (text .entry)) (at + 1))) (state left m))) ⌝ }
-{
-    if left == 0 {
-        return Value::Ended {
-            end: Early::Spent,
-            left: 0,
-        };
-    }
-    Value::Of {
-        value: word::number_at(text, at + 1),
-        next: at + 5,
-        left: left - 1,
-    }
-}
-
-// The variable at a position: one tick.
-fn variable(text: &[u8], at: usize, store: &[i32], left: u32) -> Value
-    requires { ⌜ at + 1 < length (now text) ⌝ }
-    requires { ⌜ getD (now text) (at + 1) 0 < length (now store) ⌝ }
-    ensures { λ r. ⌜ valued r (now (store .entry))
-        ≡ reaching (at + 2)
-        (value sum32 (Variable (getD (now (text .entry)) (at + 1) 0)) (state left (now (store .entry)))) ⌝ }
-{
-    if left == 0 {
-        return Value::Ended {
-            end: Early::Spent,
-            left: 0,
-        };
-    }
-    Value::Of {
-        value: store[text[at + 1] as usize],
-        next: at + 2,
-        left: left - 1,
-    }
-}
-
-// The sum of two values: one tick, and the end of the run where it is out of range.
-fn summed(x: i32, y: i32, next: usize, left: u32) -> Value
-    ensures { λ r. ⌜ ((m : List ℤ) → valued r m
-        ≡ reaching next (then′ (tick (state left m)) (λ _. add sum32 x y))) ⌝ }
-{
-    if left == 0 {
-        return Value::Ended {
-            end: Early::Spent,
-            left: 0,
-        };
-    }
-    match word::add(x, y) {
-        Sum::Fits(value) => Value::Of {
-            value,
-            next,
-            left: left - 1,
-        },
-        Sum::Out => Value::Ended {
-            end: Early::OutOfRange,
-            left: left - 1,
-        },
-    }
-}
-
-// The expression at a position, with the nesting left for it.
-fn evaluate(text: &[u8], at: usize, nest: usize, store: &[i32], left: u32) -> Value
-    requires { ⌜ Read (expression (now text) nest at) ⌝ }
-    requires { ⌜ length (now store) ≡ 64 ⌝ }
-    ensures { λ r. ⌜ valued r (now (store .entry))
-        ≡ placed (value sum32) (expression (now (text .entry)) nest at) (state left (now (store .entry))) ⌝ }
-{
-    let op = text[at];
-    match op {
-        0x10 => constant(text, at, left),
-        0x11 => variable(text, at, store, left),
-        _ => plus(text, at, nest, store, left),
-    }
-}
-
-// The Plus at a position: left, right, then the sum.
-fn plus(text: &[u8], at: usize, nest: usize, store: &[i32], left: u32) -> Value
-    requires { ⌜ getD (now text) at 0 ≡ 0x12 ⌝ }
-    requires { ⌜ Read (expression (now text) nest at) ⌝ }
-    requires { ⌜ length (now store) ≡ 64 ⌝ }
-    ensures { λ r. ⌜ valued r (now (store .entry))
-        ≡ placed (value sum32) (expression (now (text .entry)) nest at) (state left (now (store .entry))) ⌝ }
-{
-    match evaluate(text, at + 1, nest - 1, store, left) {
-        Value::Ended { end, left: rest } => Value::Ended { end, left: rest },
-        Value::Of {
-            value: x,
-            next: middle,
-            left: rest,
-        } => match evaluate(text, middle, nest - 1, store, rest) {
-            Value::Ended { end, left: last } => Value::Ended { end, left: last },
-            Value::Of {
-                value: y,
-                next,
-                left: last,
-            } => summed(x, y, next, last),
-        },
-    }
-}
-
-// ---- Parts that are passed over
-
-// The position after the part at a position, of any kind. It goes construct by construct: past the bytes of each, with
-// the number of parts that are due after them.
-fn part_end(text: &[u8], start: usize) -> usize
-    requires { ⌜ ((end : ℕ) × Row (now text) start 1 end) ⌝ }
-    ensures { λ r. ⌜ Row (now (text .entry)) start 1 r ⌝ }
-{
-    let mut at = start;
-    let mut due: usize = 1;
-    while due != 0 {
-        let op = text[at];
-        match op {
-            // SKIP
-            0x00 => {
-                at += 1;
-                due -= 1;
-            }
-            // assign
-            0x01 => {
-                at += 2;
-            }
-            // IF
-            0x03 => {
-                at += 1;
-                due += 2;
-            }
-            // a constant
-            0x10 => {
-                at += 5;
-                due -= 1;
-            }
-            // a variable, Bc
-            0x11 | 0x20 => {
-                at += 2;
-                due -= 1;
-            }
-            // Not
-            0x21 => {
-                at += 1;
-            }
-            // those of two parts
-            _ => {
-                at += 1;
-                due += 1;
-            }
-        }
-    }
-    at
-}
-
-// ---- Conditions
-
-// Bc at a position, under a flag: one tick if its value equals the flag.
-fn bc(text: &[u8], at: usize, flag: bool, left: u32) -> Truth
-    requires { ⌜ at + 1 < length (now text) ⌝ }
-    ensures { λ r. ⌜ ((m : List ℤ) → tested r m
-        ≡ reaching (at + 2)
-        (truth sum32 (Bc (eqb (getD (now (text .entry)) (at + 1) 0) 1)) flag (state left m))) ⌝ }
-{
-    let value = text[at + 1] == 1;
-    if value == flag {
-        if left == 0 {
-            return Truth::Ended {
-                end: Early::Spent,
-                left: 0,
-            };
-        }
-        return Truth::Of {
-            value,
-            next: at + 2,
-            left: left - 1,
-        };
-    }
-    Truth::Of {
-        value,
-        next: at + 2,
-        left,
-    }
-}
-
-// The other truth.
-fn inverted(t: Truth) -> Truth
-    ensures { λ r. ⌜ ((m : List ℤ) → tested r m ≡ inverse (tested t m)) ⌝ }
-{
-    match t {
-        Truth::Ended { end, left } => Truth::Ended { end, left },
-        Truth::Of { value, next, left } => Truth::Of {
-            value: !value,
-            next,
-            left,
-        },
-    }
-}
-
-// Whether the left value is smaller: one tick.
-fn compared(x: i32, y: i32, next: usize, left: u32) -> Truth
-    ensures { λ r. ⌜ ((m : List ℤ) → tested r m
-        ≡ reaching next (then′ (tick (state left m)) (λ _. give (ltZ x y)))) ⌝ }
-{
-    if left == 0 {
-        return Truth::Ended {
-            end: Early::Spent,
-            left: 0,
-        };
-    }
-    Truth::Of {
-        value: word::less(x, y),
-        next,
-        left: left - 1,
-    }
-}
-
-// Less at a position: left, right, then whether left is smaller.
-fn smaller(text: &[u8], at: usize, nest: usize, store: &[i32], left: u32) -> Truth
-    requires { ⌜ getD (now text) at 0 ≡ 0x23 ⌝ }
-    requires { ⌜ Read (condition (now text) nest at) ⌝ }
-    requires { ⌜ length (now store) ≡ 64 ⌝ }
-    ensures { λ r. ⌜ ((flag : Bool) → tested r (now (store .entry))
-        ≡ placed (λ b. truth sum32 b flag) (condition (now (text .entry)) nest at)
-        (state left (now (store .entry)))) ⌝ }
-{
-    match evaluate(text, at + 1, nest - 1, store, left) {
-        Value::Ended { end, left: rest } => Truth::Ended { end, left: rest },
-        Value::Of {
-            value: x,
-            next: middle,
-            left: rest,
-        } => match evaluate(text, middle, nest - 1, store, rest) {
-            Value::Ended { end, left: last } => Truth::Ended { end, left: last },
-            Value::Of {
-                value: y,
-                next,
-                left: last,
-            } => compared(x, y, next, last),
-        },
-    }
-}
-
-// The condition at a position, taken under a flag. And's right side is not looked at when the left is false.
-fn test(text: &[u8], at: usize, nest: usize, flag: bool, store: &[i32], left: u32) -> Truth
-    requires { ⌜ Read (condition (now text) nest at) ⌝ }
-    requires { ⌜ length (now store) ≡ 64 ⌝ }
-    ensures { λ r. ⌜ tested r (now (store .entry))
-        ≡ placed (λ b. truth sum32 b flag) (condition (now (text .entry)) nest at)
-        (state left (now (store .entry))) ⌝ }
-{
-    let op = text[at];
-    match op {
-        0x20 => bc(text, at, flag, left),
-        0x21 => inverted(test(text, at + 1, nest - 1, !flag, store, left)),
-        0x22 => match test(text, at + 1, nest - 1, false, store, left) {
-            Truth::Ended { end, left: rest } => Truth::Ended { end, left: rest },
-            Truth::Of {
-                value,
-                next,
-                left: rest,
-            } => {
-                if value {
-                    test(text, next, nest - 1, flag, store, rest)
-                } else {
-                    Truth::Of {
-                        value: false,
-                        next: part_end(text, next),
-                        left: rest,
-                    }
-                }
-            }
-        },
-        _ => smaller(text, at, nest, store, left),
-    }
 }
 
 // ---- Commands
@@ -370,7 +70,7 @@ fn assignment(text: &[u8], at: usize, nest: usize, store: &mut [i32], left: u32)
     ensures { λ r. ⌜ went r (now (store .exit))
         ≡ placed (exec sum32) (command (now (text .entry)) nest at) (state left (now (store .entry))) ⌝ }
 {
-    match evaluate(text, at + 2, nest - 1, store, left) {
+    match evaluator::evaluate(text, at + 2, nest - 1, store, left) {
         Value::Ended { end, left: rest } => Progress::Ended { end, left: rest },
         Value::Of {
             value,
@@ -427,7 +127,7 @@ fn choice(text: &[u8], at: usize, nest: usize, store: &mut [i32], left: u32) -> 
     ensures { λ r. ⌜ went r (now (store .exit))
         ≡ placed (exec sum32) (command (now (text .entry)) nest at) (state left (now (store .entry))) ⌝ }
 {
-    match test(text, at + 1, nest - 1, false, store, left) {
+    match evaluator::test(text, at + 1, nest - 1, false, store, left) {
         Truth::Ended { end, left: rest } => Progress::Ended { end, left: rest },
         Truth::Of {
             value,
@@ -440,10 +140,16 @@ fn choice(text: &[u8], at: usize, nest: usize, store: &mut [i32], left: u32) -> 
                     Progress::On {
                         next: second,
                         left: last,
-                    } => ticked(part_end(text, second), last),
+                    } => ticked(evaluator::part_end(text, second), last),
                 }
             } else {
-                execute(text, part_end(text, first), nest - 1, store, rest)
+                execute(
+                    text,
+                    evaluator::part_end(text, first),
+                    nest - 1,
+                    store,
+                    rest,
+                )
             }
         }
     }
@@ -459,7 +165,7 @@ fn repeat(text: &[u8], at: usize, nest: usize, store: &mut [i32], budget: u32) -
 {
     let mut left = budget;
     loop {
-        match test(text, at + 1, nest - 1, false, store, left) {
+        match evaluator::test(text, at + 1, nest - 1, false, store, left) {
             Truth::Ended { end, left: rest } => {
                 return Progress::Ended { end, left: rest };
             }
@@ -470,7 +176,7 @@ fn repeat(text: &[u8], at: usize, nest: usize, store: &mut [i32], budget: u32) -
             } => {
                 if !value {
                     return Progress::On {
-                        next: part_end(text, body),
+                        next: evaluator::part_end(text, body),
                         left: rest,
                     };
                 }

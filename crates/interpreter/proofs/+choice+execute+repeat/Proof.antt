@@ -14,13 +14,15 @@ use Rattle.text.specs.Reading.{condition, command}
 use Rattle.text.proofs.Opened.{Two, Three, command-opened, skip-at, sequence-at, choice-at as parts-of-choice, while-at}
 use Rattle.text.proofs.Opened.{last-command}
 use Rattle.source.specs.Rules.{state, tick}
-use Rattle.interpreter.specs.Placed.{placed, _upto_, reaching}
-use Rattle.interpreter.specs.Answers.{tested, went}
-use Rattle.interpreter.proofs.Passing.{command-end, command-ends}
-use Rattle.interpreter.proofs.Steps.{was-read}
-use Rattle.interpreter.proofs.Compound.{under, doing, skip-is, sequence-ended, choice-ended, first-at, first-stops}
-use Rattle.interpreter.proofs.Compound.{other-at, first-done, else-at, else-is, while-ended, body-at, while-done}
-use Rattle.interpreter.proofs.Compound.{body-stops, turn-spent, turn-again}
+use Rattle.evaluator.specs.Placed.{placed, _upto_, reaching}
+use Rattle.evaluator.specs.Answers.{tested}
+use Rattle.interpreter.specs.Answers.{went}
+use Rattle.evaluator.proofs.Passing.{command-end, command-ends}
+use Rattle.evaluator.proofs.Steps.{was-read}
+use Rattle.evaluator.proofs.Compound.{under}
+use Rattle.interpreter.proofs.Commands.{doing, skip-is, sequence-ended, choice-ended, first-at, first-stops}
+use Rattle.interpreter.proofs.Commands.{other-at, first-done, else-at, else-is, while-ended, body-at, while-done}
+use Rattle.interpreter.proofs.Commands.{body-stops, turn-spent, turn-again}
 use Rattle.interpreter.proofs.Loops.{Going, begins, second-next, Turning, no-higher, not-true, not-false}
 use Rattle.interpreter.proofs.choice.Reads as choice
 use Rattle.interpreter.proofs.choice.Kinds as choice-kinds
@@ -32,8 +34,8 @@ use Rattle.interpreter.proofs.repeat.Reads as repeat
 use Rattle.interpreter.proofs.repeat.Kinds as repeat-kinds
 use Rattle.interpreter.proofs.+choice+execute+repeat.Lts-repeat as repeat-lts
 use Rattle.interpreter.proofs.assignment.Reads as assignment-reads
-use Rattle.interpreter.proofs.part_end.Reads as part-end-reads
-use Rattle.interpreter.proofs.test.Reads as test-reads
+use Rattle.evaluator.proofs.part_end.Reads as part-end-reads
+use Rattle.evaluator.proofs.test.Reads as test-reads
 use Rattle.interpreter.proofs.ticked.Reads as ticked-reads
 use Rattle.interpreter.proofs.+choice+execute+repeat.{statement}
 use Rattle.interpreter.proofs.+choice+execute+repeat.Tie.{close}

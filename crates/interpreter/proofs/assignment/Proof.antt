@@ -10,10 +10,10 @@ use Rattle.text.specs.Syntax.{_:=_}
 use Rattle.text.specs.Reading.{expression}
 use Rattle.text.proofs.Opened.{One, command-opened, assignment-at}
 use Rattle.source.specs.Rules.{state}
-use Rattle.interpreter.specs.Placed.{reaching}
-use Rattle.interpreter.specs.Answers.{valued}
-use Rattle.interpreter.proofs.Steps.{was-read}
-use Rattle.interpreter.proofs.Compound.{storing, assign-ended, assign-ok}
+use Rattle.evaluator.specs.Placed.{reaching}
+use Rattle.evaluator.specs.Answers.{valued}
+use Rattle.evaluator.proofs.Steps.{was-read}
+use Rattle.interpreter.proofs.Commands.{storing, assign-ended, assign-ok}
 use Rattle.interpreter.proofs.assignment.Statement.{statement}
 use Rattle.interpreter.proofs.assignment.Tie as tie
 

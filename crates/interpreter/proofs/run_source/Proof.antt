@@ -8,11 +8,12 @@ use Rattle.text.specs.Reading.{command, read-text}
 use Rattle.text.specs.Answers.{answer}
 use Rattle.text.proofs.Opened.{read-gives, read-refuses}
 use Rattle.source.specs.Rules.{state, end-of}
-use Rattle.interpreter.specs.Placed.{placed, _upto_}
-use Rattle.interpreter.specs.Answers.{early, went}
-use Rattle.interpreter.specs.declared.Early.{Early}
-use Rattle.interpreter.specs.declared.Early.the-variants.{Spent, OutOfRange}
-use Rattle.interpreter.proofs.Compound.{doing}
+use Rattle.evaluator.specs.Placed.{placed, _upto_}
+use Rattle.evaluator.specs.Answers.{early}
+use Rattle.interpreter.specs.Answers.{went}
+use Rattle.evaluator.specs.declared.Early.{Early}
+use Rattle.evaluator.specs.declared.Early.the-variants.{Spent, OutOfRange}
+use Rattle.interpreter.proofs.Commands.{doing}
 use Rattle.interpreter.proofs.Whole.{declines, wrong-length, whole-read, done-left, done-is, ended-left, ended-is}
 use Rattle.interpreter.proofs.run_source.Statement.{statement}
 use Rattle.interpreter.proofs.run_source.Tie as tie

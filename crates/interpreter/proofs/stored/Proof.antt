@@ -7,8 +7,8 @@ use mir.Facts.{toZ-ofZ}
 use borrow.Author.Needs.{needs}
 use Rattle.base.specs.Acts.{ok, then′, give}
 use Rattle.source.specs.Rules.{state, assign}
-use Rattle.interpreter.specs.Placed.{_upto_}
-use Rattle.interpreter.proofs.Steps.{spends, goes}
+use Rattle.evaluator.specs.Placed.{_upto_}
+use Rattle.evaluator.proofs.Steps.{spends, goes}
 use Rattle.interpreter.proofs.stored.Statement.{statement}
 use Rattle.interpreter.proofs.stored.Tie as tie
 

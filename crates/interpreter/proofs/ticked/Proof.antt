@@ -2,8 +2,8 @@
 use mathlib.Core.Path.{sym, ap}
 use borrow.Author.Needs.{needs}
 use Rattle.base.specs.Acts.{then′, give}
-use Rattle.interpreter.specs.Placed.{reaching}
-use Rattle.interpreter.proofs.Steps.{tick-none, tick-one}
+use Rattle.evaluator.specs.Placed.{reaching}
+use Rattle.evaluator.proofs.Steps.{tick-none, tick-one}
 use Rattle.interpreter.proofs.ticked.Statement.{statement}
 use Rattle.interpreter.proofs.ticked.Tie as tie
 

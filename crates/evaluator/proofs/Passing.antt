@@ -16,7 +16,7 @@ use Rattle.text.specs.Reading.{Refusal, Reader, expression, condition, command}
 use Rattle.text.proofs.Opened.{expression-opened, constant-at, variable-at, plus-at}
 use Rattle.text.proofs.Opened.{last-expression, condition-opened, bc-at, not-at, and-at, less-at, last-condition}
 use Rattle.text.proofs.Opened.{command-opened, skip-at, assignment-at, sequence-at, choice-at, while-at, last-command}
-use Rattle.interpreter.specs.Placed.{width, due-after, Row, none, more}
+use Rattle.evaluator.specs.Placed.{width, due-after, Row, none, more}
 
 -- ---- A part that was read is one part of a row
 

@@ -6,10 +6,10 @@ use mir.Facts.{toZ-ofZ}
 use borrow.Author.Needs.{needs}
 use Rattle.base.specs.Acts.{ok, then′, give}
 use Rattle.source.specs.Rules.{state, value}
-use Rattle.interpreter.specs.Placed.{_upto_}
-use Rattle.interpreter.proofs.Steps.{spends, goes}
-use Rattle.interpreter.proofs.constant.Statement.{statement}
-use Rattle.interpreter.proofs.constant.Tie as tie
+use Rattle.evaluator.specs.Placed.{_upto_}
+use Rattle.evaluator.proofs.Steps.{spends, goes}
+use Rattle.evaluator.proofs.constant.Statement.{statement}
+use Rattle.evaluator.proofs.constant.Tie as tie
 
 returns : tie.Need-returns
 unfolding value

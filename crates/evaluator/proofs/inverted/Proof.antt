@@ -2,10 +2,10 @@
 use mathlib.Core.Path.{sym, ap}
 use borrow.Author.Needs.{needs}
 use Rattle.base.specs.Acts.{then′, give}
-use Rattle.interpreter.specs.Placed.{inverse}
-use Rattle.interpreter.specs.Answers.{tested}
-use Rattle.interpreter.proofs.inverted.Statement.{statement}
-use Rattle.interpreter.proofs.inverted.Tie as tie
+use Rattle.evaluator.specs.Placed.{inverse}
+use Rattle.evaluator.specs.Answers.{tested}
+use Rattle.evaluator.proofs.inverted.Statement.{statement}
+use Rattle.evaluator.proofs.inverted.Tie as tie
 
 returns : tie.Need-returns
 unfolding then′ give

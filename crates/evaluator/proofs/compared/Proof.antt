@@ -7,10 +7,10 @@ use mir.Facts.{toZ-ofZ}
 use borrow.Author.Needs.{needs}
 use Rattle.base.specs.Acts.{ok, then′, give}
 use Rattle.source.specs.Rules.{state}
-use Rattle.interpreter.specs.Placed.{_upto_}
-use Rattle.interpreter.proofs.Steps.{spends, goes}
-use Rattle.interpreter.proofs.compared.Statement.{statement}
-use Rattle.interpreter.proofs.compared.Tie as tie
+use Rattle.evaluator.specs.Placed.{_upto_}
+use Rattle.evaluator.proofs.Steps.{spends, goes}
+use Rattle.evaluator.proofs.compared.Statement.{statement}
+use Rattle.evaluator.proofs.compared.Tie as tie
 
 returns : tie.Need-returns
 returns c m = sym (spends _ _ m _ (c .if1 .taken))

@@ -5,10 +5,10 @@ use mathlib.Core.Logic.{inl, inr}
 use Prim.Native.Nat.{_+_, _-_}
 use native.Mathlib.Omega.{arith}
 use lib.ListN.{length}
-use Rattle.interpreter.specs.Placed.{width, due-after}
-use Rattle.interpreter.proofs.Passing.{Passing, Turn, byte-inside, turn, turn-leaf, turn-rest, arrived}
-use Rattle.interpreter.proofs.part_end.Statement.{statement}
-use Rattle.interpreter.proofs.part_end.Tie as tie
+use Rattle.evaluator.specs.Placed.{width, due-after}
+use Rattle.evaluator.proofs.Passing.{Passing, Turn, byte-inside, turn, turn-leaf, turn-rest, arrived}
+use Rattle.evaluator.proofs.part_end.Statement.{statement}
+use Rattle.evaluator.proofs.part_end.Tie as tie
 
 abbrev Inv-loop : tie.InvT-loop
 Inv-loop text start at₀ due₀ at due = Passing text start at due

@@ -11,13 +11,13 @@ use Rattle.text.specs.Syntax.{Less}
 use Rattle.text.specs.Reading.{expression}
 use Rattle.text.proofs.Opened.{Two, condition-opened, less-at}
 use Rattle.source.specs.Rules.{state}
-use Rattle.interpreter.specs.Placed.{placed, _upto_, reaching}
-use Rattle.interpreter.specs.Answers.{valued}
-use Rattle.interpreter.proofs.Steps.{was-read}
-use Rattle.interpreter.proofs.Compound.{valuing, under, comparing, less-does, first-ended, right-read, second-ended}
-use Rattle.interpreter.proofs.Compound.{both-ok}
-use Rattle.interpreter.proofs.smaller.Statement.{statement}
-use Rattle.interpreter.proofs.smaller.Tie as tie
+use Rattle.evaluator.specs.Placed.{placed, _upto_, reaching}
+use Rattle.evaluator.specs.Answers.{valued}
+use Rattle.evaluator.proofs.Steps.{was-read}
+use Rattle.evaluator.proofs.Compound.{valuing, under, comparing, less-does, first-ended, right-read, second-ended}
+use Rattle.evaluator.proofs.Compound.{both-ok}
+use Rattle.evaluator.proofs.smaller.Statement.{statement}
+use Rattle.evaluator.proofs.smaller.Tie as tie
 
 -- the sides of a Less
 sides : (c : tie.Start) → let a = c .args in let side = expression (a .text .now) (a .nest - 1) in

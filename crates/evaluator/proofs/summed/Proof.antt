@@ -8,10 +8,10 @@ use borrow.Author.Needs.{needs}
 use Rattle.base.specs.Acts.{ok, then′, give}
 use Rattle.word.specs.Sums.{limited, sum32}
 use Rattle.source.specs.Rules.{state, total, add}
-use Rattle.interpreter.specs.Placed.{_upto_, reaching}
-use Rattle.interpreter.proofs.Steps.{spends, goes}
-use Rattle.interpreter.proofs.summed.Statement.{statement}
-use Rattle.interpreter.proofs.summed.Tie as tie
+use Rattle.evaluator.specs.Placed.{_upto_, reaching}
+use Rattle.evaluator.proofs.Steps.{spends, goes}
+use Rattle.evaluator.proofs.summed.Statement.{statement}
+use Rattle.evaluator.proofs.summed.Tie as tie
 
 -- the sum that the code makes
 sum-is : (c : tie.After-add) → c .add .result ≡ limited (c .before .before .args .x +ℤ c .before .before .args .y)

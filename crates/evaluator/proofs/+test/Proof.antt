@@ -12,20 +12,20 @@ use Rattle.text.specs.Syntax.{And}
 use Rattle.text.specs.Reading.{condition}
 use Rattle.text.proofs.Opened.{Two, condition-opened, bc-at, not-at, and-at, last-condition}
 use Rattle.source.specs.Rules.{state}
-use Rattle.interpreter.specs.Placed.{placed, _upto_, inverse}
-use Rattle.interpreter.specs.Answers.{tested}
-use Rattle.interpreter.proofs.Passing.{condition-end, condition-ends}
-use Rattle.interpreter.proofs.Steps.{was-read, placed-is}
-use Rattle.interpreter.proofs.Compound.{under, not-is, and-ended, and-second, and-true, and-false}
-use Rattle.interpreter.proofs.test.Reads as test
-use Rattle.interpreter.proofs.test.Kinds as test-kinds
-use Rattle.interpreter.proofs.+test.Lts-test as test-lts
-use Rattle.interpreter.proofs.bc.Reads as bc-reads
-use Rattle.interpreter.proofs.inverted.Reads as inverted-reads
-use Rattle.interpreter.proofs.part_end.Reads as part-end-reads
-use Rattle.interpreter.proofs.smaller.Reads as smaller-reads
-use Rattle.interpreter.proofs.+test.{statement}
-use Rattle.interpreter.proofs.+test.Tie.{close}
+use Rattle.evaluator.specs.Placed.{placed, _upto_, inverse}
+use Rattle.evaluator.specs.Answers.{tested}
+use Rattle.evaluator.proofs.Passing.{condition-end, condition-ends}
+use Rattle.evaluator.proofs.Steps.{was-read, placed-is}
+use Rattle.evaluator.proofs.Compound.{under, not-is, and-ended, and-second, and-true, and-false}
+use Rattle.evaluator.proofs.test.Reads as test
+use Rattle.evaluator.proofs.test.Kinds as test-kinds
+use Rattle.evaluator.proofs.+test.Lts-test as test-lts
+use Rattle.evaluator.proofs.bc.Reads as bc-reads
+use Rattle.evaluator.proofs.inverted.Reads as inverted-reads
+use Rattle.evaluator.proofs.part_end.Reads as part-end-reads
+use Rattle.evaluator.proofs.smaller.Reads as smaller-reads
+use Rattle.evaluator.proofs.+test.{statement}
+use Rattle.evaluator.proofs.+test.Tie.{close}
 
 abbrev μ-test : Measures 2 test-kinds.ps ℕ
 μ-test κs a = a .1 .1 .0

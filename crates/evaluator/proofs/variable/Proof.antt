@@ -8,10 +8,10 @@ use mir.Val.{toZ, ofZ}
 use borrow.Author.Needs.{needs}
 use Rattle.base.specs.Acts.{ok, then′, give}
 use Rattle.source.specs.Rules.{state, cell, value}
-use Rattle.interpreter.specs.Placed.{_upto_}
-use Rattle.interpreter.proofs.Steps.{spends, goes}
-use Rattle.interpreter.proofs.variable.Statement.{statement}
-use Rattle.interpreter.proofs.variable.Tie as tie
+use Rattle.evaluator.specs.Placed.{_upto_}
+use Rattle.evaluator.proofs.Steps.{spends, goes}
+use Rattle.evaluator.proofs.variable.Statement.{statement}
+use Rattle.evaluator.proofs.variable.Tie as tie
 
 returns : tie.Need-returns
 unfolding value

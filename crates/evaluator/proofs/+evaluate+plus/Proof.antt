@@ -14,21 +14,21 @@ use Rattle.text.specs.Reading.{expression}
 use Rattle.text.proofs.Opened.{Two, expression-opened, constant-at, variable-at, last-expression}
 use Rattle.text.proofs.Opened.{plus-at as sides-of-plus}
 use Rattle.source.specs.Rules.{state}
-use Rattle.interpreter.specs.Placed.{placed, _upto_, reaching}
-use Rattle.interpreter.specs.Answers.{valued}
-use Rattle.interpreter.proofs.Steps.{was-read, placed-is}
-use Rattle.interpreter.proofs.Compound.{valuing, summing, plus-does, first-ended, right-read, second-ended, both-ok}
-use Rattle.interpreter.proofs.evaluate.Reads as evaluate
-use Rattle.interpreter.proofs.evaluate.Kinds as evaluate-kinds
-use Rattle.interpreter.proofs.+evaluate+plus.Lts-evaluate as evaluate-lts
-use Rattle.interpreter.proofs.plus.Reads as plus
-use Rattle.interpreter.proofs.plus.Kinds as plus-kinds
-use Rattle.interpreter.proofs.+evaluate+plus.Lts-plus as plus-lts
-use Rattle.interpreter.proofs.constant.Reads as constant-reads
-use Rattle.interpreter.proofs.summed.Reads as summed-reads
-use Rattle.interpreter.proofs.variable.Reads as variable-reads
-use Rattle.interpreter.proofs.+evaluate+plus.{statement}
-use Rattle.interpreter.proofs.+evaluate+plus.Tie.{close}
+use Rattle.evaluator.specs.Placed.{placed, _upto_, reaching}
+use Rattle.evaluator.specs.Answers.{valued}
+use Rattle.evaluator.proofs.Steps.{was-read, placed-is}
+use Rattle.evaluator.proofs.Compound.{valuing, summing, plus-does, first-ended, right-read, second-ended, both-ok}
+use Rattle.evaluator.proofs.evaluate.Reads as evaluate
+use Rattle.evaluator.proofs.evaluate.Kinds as evaluate-kinds
+use Rattle.evaluator.proofs.+evaluate+plus.Lts-evaluate as evaluate-lts
+use Rattle.evaluator.proofs.plus.Reads as plus
+use Rattle.evaluator.proofs.plus.Kinds as plus-kinds
+use Rattle.evaluator.proofs.+evaluate+plus.Lts-plus as plus-lts
+use Rattle.evaluator.proofs.constant.Reads as constant-reads
+use Rattle.evaluator.proofs.summed.Reads as summed-reads
+use Rattle.evaluator.proofs.variable.Reads as variable-reads
+use Rattle.evaluator.proofs.+evaluate+plus.{statement}
+use Rattle.evaluator.proofs.+evaluate+plus.Tie.{close}
 
 -- twice the nesting left, and one more for the expression of any kind
 abbrev μ-evaluate : Measures 2 evaluate-kinds.ps ℕ

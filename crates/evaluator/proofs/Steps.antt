@@ -7,7 +7,7 @@ use Rattle.base.specs.Acts.{Outcome, ok, ended, then′, give}
 use Rattle.text.specs.Reading.{Refusal, Reader}
 use Rattle.text.proofs.Opened.{Two}
 use Rattle.source.specs.Rules.{Early, spent, Store, State, state, Rule, Outcomes, charge, tick}
-use Rattle.interpreter.specs.Placed.{Read, _upto_, placed, reaching}
+use Rattle.evaluator.specs.Placed.{Read, _upto_, placed, reaching}
 
 -- ---- A tick
 

@@ -6,10 +6,10 @@ use Rattle.base.specs.Acts.{then′, _>>_, give, if_then_else_}
 use Rattle.word.specs.Sums.{sum32}
 use Rattle.text.specs.Syntax.{Bc}
 use Rattle.source.specs.Rules.{State, tick, truth}
-use Rattle.interpreter.specs.Placed.{reaching}
-use Rattle.interpreter.proofs.Steps.{spends, goes}
-use Rattle.interpreter.proofs.bc.Statement.{statement}
-use Rattle.interpreter.proofs.bc.Tie as tie
+use Rattle.evaluator.specs.Placed.{reaching}
+use Rattle.evaluator.proofs.Steps.{spends, goes}
+use Rattle.evaluator.proofs.bc.Statement.{statement}
+use Rattle.evaluator.proofs.bc.Tie as tie
 
 -- what the rule does where the value equals the flag, and where it does not
 ticks : (v flag : Bool) (s : State) → Bool·beq v flag ≡ true → truth sum32 (Bc v) flag s ≡ (do tick; give v) s
