@@ -20,11 +20,11 @@ use Rattle.text.proofs.Opened.{taken}
 use Rattle.text.proofs.Ranges.{in-range}
 use Rattle.source.specs.Rules.{Early, State, Store, state, Outcomes, end-of, result-of}
 use Rattle.source.specs.Calls.{source-tests, run-source}
-use Rattle.evaluator.specs.Placed.{Read, _upto_, placed}
 use Rattle.source.proofs.Calls.{source-runs}
+use Rattle.source.proofs.Ticks.{Low, low-exec}
+use Rattle.evaluator.specs.Placed.{Read, _upto_, placed}
 use Rattle.evaluator.proofs.Steps.{was-read, gave, stopped}
 use Rattle.interpreter.proofs.Commands.{doing}
-use Rattle.source.proofs.Ticks.{Low, low-exec}
 
 module _ (text : List ℕ) (store : Store) (budget : ℕ) where
   pub declines : {k p : ℕ} → read-text text ≡ refused k p → run-source text store budget ≡ (refused k p, store)

@@ -17,7 +17,7 @@ use Rattle.record.specs.Records.{rename}
 use Rattle.record.specs.Bytes.{operand as record-operand}
 use Rattle.compile.specs.Compilation.{acomp, bcomp, ccomp}
 use Rattle.compile.specs.Table.{member, once, vars, addr-of, entries}
-use Rattle.printer.specs.Numbers.{decimal-by, signed}
+use Rattle.ascii.specs.Numbers.{decimal-by, signed}
 use Rattle.printer.specs.Printing.{first-line, name-text, operand-text, record-lines, end-text, run-line}
 use Rattle.printer.specs.Printing.{value-line, value-lines, run-lines, refusal-line, answer-lines}
 use Rattle.printer.specs.Cases.{PrintedB, PrintedRefusal}

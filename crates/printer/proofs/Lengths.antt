@@ -8,9 +8,9 @@ use Rattle.base.specs.Ends.{End, done, spent, fault, short, full, out-of-range,
 use Rattle.text.specs.Sizes.{Sizes}
 use Rattle.record.specs.Records.{Record, LOADI, LOAD, ADD, STORE, JMP, JMPLESS, JMPGE, AssemblyCode, MachineCode}
 use Rattle.record.specs.Bytes.{Kind, operand, assembly-kind, machine-kind}
+use Rattle.ascii.proofs.Decimals.{decimal-length, decimal-below-100, decimal-below-10000, signed-length}
 use Rattle.printer.specs.Printing.{first-line, name-text, operand-text, record-text, record-lines}
 use Rattle.printer.specs.Printing.{end-text, run-line, value-line, value-lines, refusal-line}
-use Rattle.printer.proofs.Decimals.{decimal-length, decimal-below-100, decimal-below-10000, signed-length}
 
 -- ---- The first line and the record lines
 

@@ -1,6 +1,3 @@
-pub mod Puts
-pub mod Decimals
-pub mod Texts
 pub mod Lengths
-pub mod Rows
+pub mod Values
 pub mod Cases

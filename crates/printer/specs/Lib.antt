@@ -1,4 +1,3 @@
-pub mod Numbers
 pub mod Printing
 pub mod Answers
 pub mod Cases

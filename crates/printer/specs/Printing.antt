@@ -16,7 +16,7 @@ use Rattle.record.specs.Records.{Record, LOADI, LOAD, ADD, STORE, JMP, JMPLESS,
 use Rattle.record.specs.Bytes.{Kind, assembly-kind, machine-kind, operand}
 use Rattle.compile.specs.Compilation.{ccomp}
 use Rattle.compile.specs.Table.{to-m-prog, table}
-use Rattle.printer.specs.Numbers.{decimal, signed}
+use Rattle.ascii.specs.Numbers.{decimal, signed}
 
 abbrev pub newline : List ℕ
 newline = 10 ∷ []

@@ -32,7 +32,7 @@ use Rattle.fitting.specs.Demand3.{Ready, RowFitted}
 use Rattle.fitting.proofs.Demand3.{fitted, rows-fitted}
 use Rattle.pod.specs.Rows.{row}
 use Rattle.printer.specs.Printing.{first-line, record-lines, run-lines, refusal-line, answer-lines, shown}
-use Rattle.printer.specs.Answers.{Codes}
+use Rattle.listing.specs.Lines.{Codes}
 use Rattle.renderer.specs.Lines.{lines, SomeCodes}
 
 -- ---- What reading gave

@@ -6,7 +6,7 @@ use Rattle.base.specs.Ends.{Ran}
 use Rattle.text.specs.Sizes.{Sizes}
 use Rattle.record.specs.Records.{AssemblyCode, MachineCode}
 use Rattle.printer.specs.Printing.{first-line, record-lines, run-line, value-lines}
-use Rattle.printer.specs.Answers.{Codes}
+use Rattle.listing.specs.Lines.{Codes}
 
 abbrev pub lines : Sizes → AssemblyCode → MachineCode → Ran → List ℕ → List ℤ → List ℕ
 lines z P Q r t s = first-line z ++ (record-lines 0 P Q ++ (run-line r ++ value-lines t s 0 64))

@@ -6,8 +6,10 @@ ghost use lib.ListN.{length};
 ghost use Rattle.base.specs.Answers.{gives};
 ghost use Rattle.text.specs.Calls.{read-call};
 ghost use Rattle.record.specs.Records.{AssemblyCode, MachineCode};
+ghost use Rattle.ascii.specs.Puts.{Puts};
 ghost use Rattle.printer.specs.Printing.{shown};
-ghost use Rattle.printer.specs.Answers.{Puts, Codes, sized, ran};
+ghost use Rattle.printer.specs.Answers.{sized, ran};
+ghost use Rattle.listing.specs.Lines.{Codes};
 ghost use Rattle.renderer.specs.Lines.{SomeCodes, lines};
 use base::End;
 use base::Run;
@@ -54,7 +56,7 @@ fn put_lines(
         0 (now (out .entry)) (now (out .exit)) r) ⌝ }
 {
     let next = printer::put_first_line(out, 0, records, depth, cells);
-    let next = printer::put_record_lines(out, next, assembly, machine, records);
+    let next = listing::put_record_lines(out, next, assembly, machine, records);
     let next = printer::put_run_line(out, next, end, count);
     printer::put_value_lines(out, next, table, store)
 }

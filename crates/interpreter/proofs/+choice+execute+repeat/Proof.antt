@@ -16,10 +16,12 @@ use Rattle.text.proofs.Opened.{last-command}
 use Rattle.source.specs.Rules.{state, tick}
 use Rattle.evaluator.specs.Placed.{placed, _upto_, reaching}
 use Rattle.evaluator.specs.Answers.{tested}
-use Rattle.interpreter.specs.Answers.{went}
 use Rattle.evaluator.proofs.Passing.{command-end, command-ends}
 use Rattle.evaluator.proofs.Steps.{was-read}
 use Rattle.evaluator.proofs.Compound.{under}
+use Rattle.evaluator.proofs.part_end.Reads as part-end-reads
+use Rattle.evaluator.proofs.test.Reads as test-reads
+use Rattle.interpreter.specs.Answers.{went}
 use Rattle.interpreter.proofs.Commands.{doing, skip-is, sequence-ended, choice-ended, first-at, first-stops}
 use Rattle.interpreter.proofs.Commands.{other-at, first-done, else-at, else-is, while-ended, body-at, while-done}
 use Rattle.interpreter.proofs.Commands.{body-stops, turn-spent, turn-again}
@@ -34,8 +36,6 @@ use Rattle.interpreter.proofs.repeat.Reads as repeat
 use Rattle.interpreter.proofs.repeat.Kinds as repeat-kinds
 use Rattle.interpreter.proofs.+choice+execute+repeat.Lts-repeat as repeat-lts
 use Rattle.interpreter.proofs.assignment.Reads as assignment-reads
-use Rattle.evaluator.proofs.part_end.Reads as part-end-reads
-use Rattle.evaluator.proofs.test.Reads as test-reads
 use Rattle.interpreter.proofs.ticked.Reads as ticked-reads
 use Rattle.interpreter.proofs.+choice+execute+repeat.{statement}
 use Rattle.interpreter.proofs.+choice+execute+repeat.Tie.{close}

@@ -10,9 +10,9 @@ use Rattle.text.proofs.Opened.{read-gives, read-refuses}
 use Rattle.source.specs.Rules.{state, end-of}
 use Rattle.evaluator.specs.Placed.{placed, _upto_}
 use Rattle.evaluator.specs.Answers.{early}
-use Rattle.interpreter.specs.Answers.{went}
 use Rattle.evaluator.specs.declared.Early.{Early}
 use Rattle.evaluator.specs.declared.Early.the-variants.{Spent, OutOfRange}
+use Rattle.interpreter.specs.Answers.{went}
 use Rattle.interpreter.proofs.Commands.{doing}
 use Rattle.interpreter.proofs.Whole.{declines, wrong-length, whole-read, done-left, done-is, ended-left, ended-is}
 use Rattle.interpreter.proofs.run_source.Statement.{statement}

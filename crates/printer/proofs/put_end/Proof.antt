@@ -5,9 +5,9 @@ use Prim.Native.Nat.{ℕ}
 use borrow.Author.Needs.{needs}
 use Rattle.base.specs.Runs.{end-of}
 use Rattle.base.specs.declared.End.{End}
+use Rattle.ascii.specs.Puts.{Puts}
+use Rattle.ascii.proofs.Puts.{puts-is}
 use Rattle.printer.specs.Printing.{end-text}
-use Rattle.printer.specs.Answers.{Puts}
-use Rattle.printer.proofs.Puts.{puts-is}
 use Rattle.printer.proofs.put_end.Statement.{statement}
 use Rattle.printer.proofs.put_end.Tie as tie
 

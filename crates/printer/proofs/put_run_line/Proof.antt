@@ -4,9 +4,9 @@ use Prim.Native.Nat.{_+_, _≤_}
 use native.Mathlib.Omega.{arith}
 use borrow.Author.Needs.{needs}
 use lib.ListN.{length}
+use Rattle.ascii.proofs.Puts.{puts-both, room-left}
+use Rattle.ascii.proofs.Decimals.{decimal-length}
 use Rattle.printer.specs.Printing.{run-line}
-use Rattle.printer.proofs.Puts.{puts-both, room-left}
-use Rattle.printer.proofs.Decimals.{decimal-length}
 use Rattle.printer.proofs.Lengths.{end-length}
 use Rattle.printer.proofs.put_run_line.Statement.{statement}
 use Rattle.printer.proofs.put_run_line.Tie as tie

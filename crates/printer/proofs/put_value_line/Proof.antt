@@ -6,9 +6,9 @@ use native.Mathlib.Omega.{arith}
 use borrow.Author.Needs.{needs}
 use lib.ListN.{length}
 use mir.Facts.{toZ-ofZ}
-use Rattle.printer.proofs.Puts.{puts-is, puts-none, puts-both, room-left}
-use Rattle.printer.proofs.Decimals.{decimal-below-100, signed-length}
-use Rattle.printer.proofs.Rows.{unnamed, named-value}
+use Rattle.ascii.proofs.Puts.{puts-is, puts-none, puts-both, room-left}
+use Rattle.ascii.proofs.Decimals.{decimal-below-100, signed-length}
+use Rattle.printer.proofs.Values.{unnamed, named-value}
 use Rattle.printer.proofs.put_value_line.Statement.{statement}
 use Rattle.printer.proofs.put_value_line.Tie as tie
 

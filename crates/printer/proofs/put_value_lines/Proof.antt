@@ -7,10 +7,11 @@ use borrow.Author.Needs.{needs}
 use lib.ListN.{length, getD}
 use mir.Syntax.{w32}
 use mir.Facts.{toZ-ofZ}
+use Rattle.ascii.specs.Puts.{Puts}
+use Rattle.ascii.proofs.Puts.{puts-is, puts-none, kept}
+use Rattle.ascii.proofs.Rows.{rows, rows-next}
 use Rattle.printer.specs.Printing.{value-line}
-use Rattle.printer.specs.Answers.{Puts}
-use Rattle.printer.proofs.Puts.{puts-is, puts-none, kept}
-use Rattle.printer.proofs.Rows.{rows, rows-next, value-at, value-rows}
+use Rattle.printer.proofs.Values.{value-at, value-rows}
 use Rattle.printer.proofs.Lengths.{value-lines-length}
 use Rattle.printer.proofs.put_value_lines.Statement.{statement}
 use Rattle.printer.proofs.put_value_lines.Tie as tie

@@ -4,9 +4,9 @@ use Prim.Native.Nat.{_+_, _*_, _≤_}
 use native.Mathlib.Omega.{arith}
 use borrow.Author.Needs.{needs}
 use lib.ListN.{length}
-use Rattle.record.proofs.Tested.{records-length}
 use Rattle.record.specs.Bytes.{assembly-kind}
-use Rattle.printer.proofs.Puts.{puts-both, room-left}
+use Rattle.record.proofs.Tested.{records-length}
+use Rattle.ascii.proofs.Puts.{puts-both, room-left}
 use Rattle.printer.proofs.Lengths.{first-line-length, record-lines-length, run-line-length}
 use Rattle.renderer.proofs.put_lines.Statement.{statement}
 use Rattle.renderer.proofs.put_lines.Tie as tie

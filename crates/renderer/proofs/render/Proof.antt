@@ -3,7 +3,7 @@ use mathlib.Core.Path.{_≡_, refl, sym, ap, _∙_}
 use native.Mathlib.Omega.{arith}
 use borrow.Author.Needs.{needs}
 use Rattle.text.specs.Answers.{answer}
-use Rattle.printer.proofs.Puts.{puts-is, puts-within}
+use Rattle.ascii.proofs.Puts.{puts-is, puts-within}
 use Rattle.renderer.proofs.Shown.{refused-shown}
 use Rattle.renderer.proofs.render.Statement.{statement}
 use Rattle.renderer.proofs.render.Tie as tie

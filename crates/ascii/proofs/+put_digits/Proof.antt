@@ -5,14 +5,14 @@ use native.Mathlib.Omega.{arith}
 use borrow.Author.Needs.{needs}
 use borrow.Fn.Kinds.{In}
 use borrow.Fn.PlainCycle.{Measures, is, falls, and}
-use Rattle.printer.proofs.Puts.{puts-is, puts-none, puts-both, kept}
-use Rattle.printer.proofs.Decimals.{no-digits, one-digit, more-digits, digits-allowed}
-use Rattle.printer.proofs.put_digits.Reads as put-digits
-use Rattle.printer.proofs.put_digits.Kinds as put-digits-kinds
-use Rattle.printer.proofs.+put_digits.Lts-put_digits as lts
-use Rattle.printer.proofs.put_byte.Reads as put-byte
-use Rattle.printer.proofs.+put_digits.{statement}
-use Rattle.printer.proofs.+put_digits.Tie.{close}
+use Rattle.ascii.proofs.Puts.{puts-is, puts-none, puts-both, kept}
+use Rattle.ascii.proofs.Decimals.{no-digits, one-digit, more-digits, digits-allowed}
+use Rattle.ascii.proofs.put_digits.Reads as put-digits
+use Rattle.ascii.proofs.put_digits.Kinds as put-digits-kinds
+use Rattle.ascii.proofs.+put_digits.Lts-put_digits as lts
+use Rattle.ascii.proofs.put_byte.Reads as put-byte
+use Rattle.ascii.proofs.+put_digits.{statement}
+use Rattle.ascii.proofs.+put_digits.Tie.{close}
 
 -- The measure: the digits left
 abbrev μ : Measures 1 put-digits-kinds.ps ℕ

@@ -6,10 +6,10 @@ use native.Mathlib.Omega.{arith}
 use borrow.Author.Needs.{needs}
 use lib.ListN.{length, take, getD}
 use lib.Seq.{take-all, take-suc}
-use Rattle.printer.specs.Answers.{Puts}
-use Rattle.printer.proofs.Puts.{puts-is, puts-none, puts-one, puts-both, kept}
-use Rattle.printer.proofs.put_word.Statement.{statement}
-use Rattle.printer.proofs.put_word.Tie as tie
+use Rattle.ascii.specs.Puts.{Puts}
+use Rattle.ascii.proofs.Puts.{puts-is, puts-none, puts-one, puts-both, kept}
+use Rattle.ascii.proofs.put_word.Statement.{statement}
+use Rattle.ascii.proofs.put_word.Tie as tie
 
 abbrev Inv-loop : tie.InvT-loop
 Inv-loop out₀ at word i₀ out i = (i ≤ length word) × Puts (take i word) at out₀ out (at + i)

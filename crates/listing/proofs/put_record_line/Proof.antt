@@ -4,12 +4,12 @@ use Prim.Native.Nat.{_+_, _≤_}
 use native.Mathlib.Omega.{arith}
 use borrow.Author.Needs.{needs}
 use lib.ListN.{length}
-use Rattle.printer.specs.Answers.{line-at}
-use Rattle.printer.proofs.Puts.{puts-both, room-left}
-use Rattle.printer.proofs.Decimals.{decimal-below-10000}
-use Rattle.printer.proofs.Texts.{text-length}
-use Rattle.printer.proofs.put_record_line.Statement.{statement}
-use Rattle.printer.proofs.put_record_line.Tie as tie
+use Rattle.ascii.proofs.Puts.{puts-both, room-left}
+use Rattle.ascii.proofs.Decimals.{decimal-below-10000}
+use Rattle.listing.specs.Lines.{line-at}
+use Rattle.listing.proofs.Texts.{text-length}
+use Rattle.listing.proofs.put_record_line.Statement.{statement}
+use Rattle.listing.proofs.put_record_line.Tie as tie
 
 -- The room left after each part
 left-44 : (c : tie.After-put-decimal) → c .put-decimal .result + 44 ≤ length (c .put-decimal .last .0)

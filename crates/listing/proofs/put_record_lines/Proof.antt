@@ -5,12 +5,14 @@ use Prim.Native.Nat.{_-_, _*_, _≤_}
 use native.Mathlib.Omega.{arith}
 use borrow.Author.Needs.{needs}
 use lib.ListN.{length}
-use Rattle.printer.specs.Answers.{Puts, line-at}
-use Rattle.printer.proofs.Puts.{puts-is, puts-none, kept}
-use Rattle.printer.proofs.Texts.{line-length}
-use Rattle.printer.proofs.Rows.{rows, rows-next, rows-length, codes-rows}
-use Rattle.printer.proofs.put_record_lines.Statement.{statement}
-use Rattle.printer.proofs.put_record_lines.Tie as tie
+use Rattle.ascii.specs.Puts.{Puts}
+use Rattle.ascii.proofs.Puts.{puts-is, puts-none, kept}
+use Rattle.ascii.proofs.Rows.{rows, rows-next, rows-length}
+use Rattle.listing.specs.Lines.{line-at}
+use Rattle.listing.proofs.Texts.{line-length}
+use Rattle.listing.proofs.Records.{codes-rows}
+use Rattle.listing.proofs.put_record_lines.Statement.{statement}
+use Rattle.listing.proofs.put_record_lines.Tie as tie
 
 abbrev Inv-loop : tie.InvT-loop
 Inv-loop out₀ at assembly machine count next₀ i₀ out next i =

@@ -6,10 +6,10 @@ use borrow.Author.Needs.{needs}
 use lib.ListN.{length}
 use mir.Syntax.{w32}
 use Rattle.word.proofs.Laws.{read-back}
-use Rattle.printer.proofs.Puts.{puts-is, puts-both, room-left}
-use Rattle.printer.proofs.Texts.{name-length, text-of-add, text-of-other}
-use Rattle.printer.proofs.put_record.Statement.{statement}
-use Rattle.printer.proofs.put_record.Tie as tie
+use Rattle.ascii.proofs.Puts.{puts-is, puts-both, room-left}
+use Rattle.listing.proofs.Texts.{name-length, text-of-add, text-of-other}
+use Rattle.listing.proofs.put_record.Statement.{statement}
+use Rattle.listing.proofs.put_record.Tie as tie
 
 -- The room left after each part
 left-12 : (c : tie.After-put-name) → c .put-name .result + 12 ≤ length (c .put-name .last .0)

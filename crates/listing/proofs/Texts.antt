@@ -16,11 +16,12 @@ use Rattle.record.specs.Records.{Record, LOADI, LOAD, ADD, STORE, JMP, JMPLESS,
 use Rattle.record.specs.Bytes.{Kind, operand, Operation, loadi, load, add, store, jmp, jmpless, jmpge, unknown}
 use Rattle.record.specs.Bytes.{operation, name-of, option-map, is-zero, record-of, record-at}
 use Rattle.record.proofs.Reading.{above, above-first}
-use Rattle.printer.specs.Numbers.{signed}
+use Rattle.ascii.specs.Numbers.{signed}
+use Rattle.ascii.specs.Puts.{Puts}
+use Rattle.ascii.proofs.Puts.{puts-is}
+use Rattle.ascii.proofs.Decimals.{signed-length, decimal-below-10000}
 use Rattle.printer.specs.Printing.{name-text, operand-text, record-text}
-use Rattle.printer.specs.Answers.{operation-name, operation-operand, text-at, line-at, Puts}
-use Rattle.printer.proofs.Puts.{puts-is}
-use Rattle.printer.proofs.Decimals.{signed-length, decimal-below-10000}
+use Rattle.listing.specs.Lines.{operation-name, operation-operand, text-at, line-at}
 
 -- ---- What a byte stands for
 

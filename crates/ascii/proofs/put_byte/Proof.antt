@@ -1,8 +1,8 @@
 -- One byte is put: the law `puts-one`.
 use borrow.Author.Needs.{needs}
-use Rattle.printer.proofs.Puts.{puts-one}
-use Rattle.printer.proofs.put_byte.Statement.{statement}
-use Rattle.printer.proofs.put_byte.Tie as tie
+use Rattle.ascii.proofs.Puts.{puts-one}
+use Rattle.ascii.proofs.put_byte.Statement.{statement}
+use Rattle.ascii.proofs.put_byte.Tie as tie
 
 pub put-byte-spec : {M : Type 1} → statement M
 put-byte-spec =

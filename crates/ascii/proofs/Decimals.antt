@@ -14,7 +14,7 @@ use mir.Val.{SFits}
 use borrow.Author.Tests.{lt-ltb, le-ltb, ltb-true}
 use Rattle.base.specs.Acts.{if_then_else_}
 use Rattle.word.specs.Numbers.{bits-of}
-use Rattle.printer.specs.Numbers.{decimal-by, decimal, signed}
+use Rattle.ascii.specs.Numbers.{decimal-by, decimal, signed}
 
 -- ---- Digits
 

@@ -4,12 +4,12 @@ use native.Mathlib.Nat.{add-zero}
 use native.Mathlib.Omega.{arith}
 use borrow.Author.Needs.{needs}
 use Rattle.record.specs.Bytes.{operation}
+use Rattle.ascii.proofs.Puts.{puts-is, puts-none}
 use Rattle.printer.specs.Printing.{name-text}
-use Rattle.printer.specs.Answers.{operation-name}
-use Rattle.printer.proofs.Puts.{puts-is, puts-none}
-use Rattle.printer.proofs.Texts.{named, by-none}
-use Rattle.printer.proofs.put_name.Statement.{statement}
-use Rattle.printer.proofs.put_name.Tie as tie
+use Rattle.listing.specs.Lines.{operation-name}
+use Rattle.listing.proofs.Texts.{named, by-none}
+use Rattle.listing.proofs.put_name.Statement.{statement}
+use Rattle.listing.proofs.put_name.Tie as tie
 
 name-0 : tie.Need-returns
 unfolding operation operation-name name-text

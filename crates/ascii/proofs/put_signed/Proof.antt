@@ -6,10 +6,10 @@ use lib.IntN.{pos}
 use lib.Signed.{ltZ}
 use mir.Facts.{toZ-ofZ}
 use Rattle.word.specs.Numbers.{bits-of}
-use Rattle.printer.proofs.Puts.{puts-is, puts-both}
-use Rattle.printer.proofs.Decimals.{signed-plain, signed-minus}
-use Rattle.printer.proofs.put_signed.Statement.{statement}
-use Rattle.printer.proofs.put_signed.Tie as tie
+use Rattle.ascii.proofs.Puts.{puts-is, puts-both}
+use Rattle.ascii.proofs.Decimals.{signed-plain, signed-minus}
+use Rattle.ascii.proofs.put_signed.Statement.{statement}
+use Rattle.ascii.proofs.put_signed.Tie as tie
 
 -- What the two calls say of the number itself
 bits-are : (c : tie.After-bits) → bits-of (c .before .before .args .z) ≡ c .bits .result

@@ -8,7 +8,7 @@ use native.Mathlib.Numerals.{add-one}
 use native.Mathlib.Omega.{arith}
 use lib.ListN.{length, take, drop, set, length-append, length-drop, take-append-drop}
 use lib.Seq.{take-at, drop-at, drop-drop, length-take-le, set-split}
-use Rattle.printer.specs.Answers.{Puts}
+use Rattle.ascii.specs.Puts.{Puts}
 
 -- A put of the same bytes, and the same place after them.
 pub puts-is : {new other : List ℕ} {at : ℕ} {old later : List ℕ} {next n : ℕ} → Puts new at old later next
