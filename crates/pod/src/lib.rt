@@ -1,20 +1,20 @@
 // The pod: the four calls in a row, and what its C host calls.
 ghost use mathlib.Core.Path.{_≡_};
-ghost use Prim.Native.Nat.{_≤_};
-ghost use Rattle.base.specs.Answers.{gives, refused};
-ghost use Rattle.text.specs.Calls.{read-call};
-ghost use Rattle.compile.specs.Calls.{compile, go-back};
-ghost use Rattle.pod.specs.Exports.{packed, packed-count, beside};
-ghost use Prim.Native.Nat.{_*_};
+ghost use Prim.Native.Nat.{_*_, _≤_};
 ghost use lib.ListN.{length, take};
+ghost use Rattle.base.specs.Answers.{gives, refused};
 ghost use Rattle.base.specs.Runs.{run-answer};
 ghost use Rattle.text.specs.Syntax.{Command};
 ghost use Rattle.text.specs.Reading.{read-text};
+ghost use Rattle.text.specs.Sizes.{sized};
+ghost use Rattle.text.specs.Calls.{read-call};
 ghost use Rattle.source.specs.Calls.{run-source};
 ghost use Rattle.machine.specs.Calls.{run-machine};
+ghost use Rattle.compile.specs.Calls.{compile, go-back};
 ghost use Rattle.fitting.specs.Calls.{load, after-running, after-loading, fit};
 ghost use Rattle.fitting.specs.Demand3.{Ready};
-ghost use Rattle.pod.specs.Rows.{row, sized};
+ghost use Rattle.pod.specs.Rows.{row};
+ghost use Rattle.pod.specs.Exports.{packed, packed-count, beside};
 use base::Run;
 use table::Count;
 use text::Reading;
@@ -121,7 +121,7 @@ fn pack_refusal(number: u8, place: usize) -> u64
 
 fn pack_sizes(records: usize, depth: usize, cells: usize) -> u64
     requires { ⌜ (records ≤ 4096) × (depth ≤ 63) × (cells ≤ 64) ⌝ }
-    ensures { λ r. ⌜ r ≡ packed (gives (record { records = records; depth = depth; cells = cells })) ⌝ }
+    ensures { λ r. ⌜ r ≡ packed (gives (sized records depth cells)) ⌝ }
 {
     256 * (records as u64) + 16777216 * (depth as u64) + 4294967296 * (cells as u64)
 }

@@ -5,9 +5,10 @@ use base::End;
 ghost use Prim.Native.Nat.{_+_, _<_, _≤_};
 ghost use lib.ListN.{length};
 ghost use Rattle.base.specs.Runs.{end-of};
+ghost use Rattle.text.specs.Sizes.{sized};
 ghost use Rattle.ascii.specs.Puts.{Puts};
 ghost use Rattle.printer.specs.Printing.{first-line, end-text, run-line, value-line, value-lines, refusal-line};
-ghost use Rattle.printer.specs.Answers.{sized, ran};
+ghost use Rattle.printer.specs.Answers.{ran};
 
 // Enough for what is printed for any text.
 pub const LONGEST_OUTPUT: usize = 200000;

@@ -3,7 +3,7 @@ use mathlib.Core.Path.{_≡_}
 use Prim.Native.Nat.{ℕ}
 use mathlib.Core.List.{List, [], _∷_, _++_, map}
 use Rattle.base.specs.Answers.{Answer, gives, refused}
-use Rattle.text.specs.Sizes.{Sizes}
+use Rattle.text.specs.Sizes.{Sizes, sized}
 use Rattle.text.specs.Calls.{read-call}
 use lib.ListN.{replicate}
 
@@ -62,7 +62,7 @@ texts = A·text ∷ B·text ∷ C·text ∷ D·text ∷ E·text ∷ F·text ∷ 
 
 -- "An accepted text's reading gives its record count, D and n"
 abbrev pub read : ℕ → ℕ → ℕ → Answer Sizes
-read r d n = gives (record { records = r; depth = d; cells = n })
+read r d n = gives (sized r d n)
 
 -- B: "4 records, D 2"; K: "6 records, D 2", not the larger side + 1.
 abbrev pub Readings : Type 0

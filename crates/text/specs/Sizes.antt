@@ -84,5 +84,8 @@ pub record Sizes : Type 0 where
   pub depth : ℕ
   pub cells : ℕ
 
+abbrev pub sized : ℕ → ℕ → ℕ → Sizes
+sized k d n = record { records = k; depth = d; cells = n }
+
 abbrev pub sizes : Command → Sizes
-sizes c = record { records = records c; depth = depth c; cells = cells c }
+sizes c = sized (records c) (depth c) (cells c)

@@ -4,7 +4,7 @@ use mathlib.Core.Path.{ap}
 use native.Mathlib.Omega.{arith}
 use borrow.Author.Needs.{needs}
 use Rattle.text.specs.Answers.{answer}
-use Rattle.pod.specs.Rows.{sized}
+use Rattle.text.specs.Sizes.{sized}
 use Rattle.pairs.proofs.Pairs.{assemble-refused, assemble-given, assemble-room, same-run}
 use Rattle.pairs.proofs.assemble_and_run.Statement.{statement}
 use Rattle.pairs.proofs.assemble_and_run.Tie as tie

@@ -3,8 +3,9 @@
 use mathlib.Core.Path.{ap}
 use native.Mathlib.Omega.{arith}
 use borrow.Author.Needs.{needs}
+use Rattle.text.specs.Sizes.{sized}
 use Rattle.text.specs.Answers.{answer}
-use Rattle.pod.specs.Rows.{row, sized}
+use Rattle.pod.specs.Rows.{row}
 use Rattle.pod.proofs.Rows.{compile-refused, compile-given, compile-room, demanded}
 use Rattle.pod.proofs.fit.Statement.{statement}
 use Rattle.pod.proofs.fit.Tie as tie

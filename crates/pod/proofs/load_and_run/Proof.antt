@@ -2,8 +2,8 @@
 -- In the answers u is the place after loading.
 use mathlib.Core.Path.{ap}
 use borrow.Author.Needs.{needs}
+use Rattle.text.specs.Sizes.{sized}
 use Rattle.table.specs.Counts.{answer}
-use Rattle.pod.specs.Rows.{sized}
 use Rattle.pod.proofs.Rows.{load-refused, load-given}
 use Rattle.pod.proofs.load_and_run.Statement.{statement}
 use Rattle.pod.proofs.load_and_run.Tie as tie

@@ -5,9 +5,9 @@ use Prim.Native.Nat.{ℕ}
 use mathlib.Core.List.{List}
 use borrow.Author.Needs.{needs}
 use Rattle.base.specs.Answers.{Answer}
+use Rattle.compile.specs.Calls.{go-back}
 use Rattle.table.specs.Counts.{answer}
 use Rattle.table.specs.declared.Count.{Count}
-use Rattle.compile.specs.Calls.{go-back}
 use Rattle.pod.specs.Exports.{packed-count, beside}
 use Rattle.pod.proofs.Ranges.{Small, go-back-small}
 use Rattle.pod.proofs.profile_go_back.Statement.{statement}

@@ -6,8 +6,8 @@ use borrow.Author.Needs.{needs}
 use Prim.Native.Nat.{_*_}
 use lib.ListN.{length-take}
 use Rattle.base.specs.Runs.{run-answer}
+use Rattle.text.specs.Sizes.{sized}
 use Rattle.table.specs.Counts.{answer}
-use Rattle.pod.specs.Rows.{sized}
 use Rattle.pod.proofs.Rows.{run-refused, reading-refused, read-back-given}
 use Rattle.pod.proofs.run_and_read_back.Statement.{statement}
 use Rattle.pod.proofs.run_and_read_back.Tie as tie

@@ -7,9 +7,10 @@ use borrow.Author.Needs.{needs}
 use lib.ListN.{length, take, length-take}
 use Rattle.base.specs.Runs.{run-answer}
 use Rattle.text.specs.Encoding.{Bytes}
+use Rattle.text.specs.Sizes.{sized}
 use Rattle.source.specs.Cases.{zeros}
 use Rattle.ascii.proofs.Puts.{puts-is}
-use Rattle.printer.specs.Answers.{sized, ran}
+use Rattle.printer.specs.Answers.{ran}
 use Rattle.renderer.proofs.Shown.{Read, was-read, limits, Came, came}
 use Rattle.renderer.proofs.render_accepted.Statement.{statement}
 use Rattle.renderer.proofs.render_accepted.Tie as tie
