@@ -1,4 +1,4 @@
--- The executor in the terms of machine's laws: where it does a record, and the course of its run.
+-- The executor in the terms of machine's laws: the course of its run.
 use mathlib.Core.Path.{_≡_}
 use Prim.Native.Nat.{ℕ}
 use mathlib.Core.List.{List}
@@ -7,12 +7,8 @@ use lib.ListN.{length}
 use Rattle.record.specs.Records.{MachineCode}
 use Rattle.record.specs.declared.Address.{Address}
 use Rattle.machine.specs.Memories.{cells}
-use Rattle.machine.proofs.Doing.{Place}
 use Rattle.machine.proofs.Running.{Course}
-use Rattle.machine_code.specs.declared.Executor.{Executor}
-
-abbrev pub place : Executor → List ℤ → Place (List ℤ) Address
-place x m = record { depth = x .depth; form = cells (x .depth); last = x .last; machine = x .machine; memory = m }
+use Rattle.machine_step.specs.declared.Executor.{Executor}
 
 abbrev pub course : (x : Executor) → List ℤ → ℕ → (P : MachineCode) → length P ≡ x .last → Course (List ℤ) Address
 course x m budget P all =

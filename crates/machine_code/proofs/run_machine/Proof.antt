@@ -17,7 +17,7 @@ use Rattle.machine.specs.Memories.{cells}
 use Rattle.machine.specs.Calls.{memory-fits, machine-run}
 use Rattle.machine.specs.declared.Machine.{Machine}
 use Rattle.machine.proofs.Calls.{from-fresh, told, machine-call, memory-facts}
-use Rattle.machine_code.specs.Steps.{Starts}
+use Rattle.machine_code.specs.Runs.{Starts}
 use Rattle.machine_code.proofs.run_machine.Statement.{statement}
 use Rattle.machine_code.proofs.run_machine.Tie as tie
 

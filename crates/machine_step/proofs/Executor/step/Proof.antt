@@ -16,9 +16,9 @@ use Rattle.record.specs.declared.Address.{Address}
 use Rattle.record.proofs.Decoding.{address-at-most, Due, record-due}
 use Rattle.record.proofs.Decoding.{is-loadi, is-load, is-add, is-store, is-jmp, is-jmpless, is-jmpge}
 use Rattle.machine.specs.Answers.{Stepped}
-use Rattle.machine_code.specs.Steps.{done-on}
-use Rattle.machine_code.proofs.Executor.step.Statement.{statement}
-use Rattle.machine_code.proofs.Executor.step.Tie as tie
+use Rattle.machine_step.specs.Steps.{done-on}
+use Rattle.machine_step.proofs.Executor.step.Statement.{statement}
+use Rattle.machine_step.proofs.Executor.step.Tie as tie
 
 -- addresses are below 256
 below-256 : (n : ℕ) → n ≤ 64 → (u : ℕ) → machine-kind n .is-name u ≡ true → u < 256

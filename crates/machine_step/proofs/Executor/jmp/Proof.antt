@@ -5,9 +5,9 @@ use lib.IntN.{ℤ}
 use mir.Facts.{toZ-ofZ}
 use Rattle.record.specs.declared.Address.{Address}
 use Rattle.machine.proofs.Doing.{Place, jmp-landed}
-use Rattle.machine_code.proofs.Settings.{place}
-use Rattle.machine_code.proofs.Executor.jmp.Statement.{statement}
-use Rattle.machine_code.proofs.Executor.jmp.Tie as tie
+use Rattle.machine_step.proofs.Settings.{place}
+use Rattle.machine_step.proofs.Executor.jmp.Statement.{statement}
+use Rattle.machine_step.proofs.Executor.jmp.Tie as tie
 
 -- where the record is done
 abbrev here : tie.Start → Place (List ℤ) Address

@@ -7,9 +7,9 @@ use mir.Syntax.{w32}
 use Rattle.word.proofs.Laws.{read-back}
 use Rattle.record.specs.declared.Address.{Address}
 use Rattle.machine.proofs.Doing.{Place, load-is}
-use Rattle.machine_code.proofs.Settings.{place}
-use Rattle.machine_code.proofs.Executor.load.Statement.{statement}
-use Rattle.machine_code.proofs.Executor.load.Tie as tie
+use Rattle.machine_step.proofs.Settings.{place}
+use Rattle.machine_step.proofs.Executor.load.Statement.{statement}
+use Rattle.machine_step.proofs.Executor.load.Tie as tie
 
 -- where the record is done
 abbrev here : tie.Start → Place (List ℤ) Address

@@ -1,21 +1,17 @@
--- What steps and runs of machine code give, and what they need.
+-- What records and steps of machine code give, and what they need.
 use mathlib.Core.Path.{_≡_}
-use Prim.Native.Nat.{ℕ, _+_, _-_, _*_, _≤_, _<_, _^_}
+use Prim.Native.Nat.{ℕ, _+_, _*_, _≤_, _<_, _^_}
 use mathlib.Core.List.{List}
 use mathlib.Core.Option.{some}
 use lib.IntN.{ℤ}
 use lib.ListN.{length}
 use Rattle.base.specs.Answers.{gives}
-use Rattle.base.specs.Ends.{Result}
-use Rattle.word.specs.Sums.{sum32}
 use Rattle.record.specs.Records.{Record, MachineCode}
 use Rattle.record.specs.Bytes.{machine-kind, record-at, records-from}
 use Rattle.record.specs.declared.Address.{Address}
-use Rattle.machine.specs.Machine as Rules
-use Rattle.machine.specs.Machine.{run}
 use Rattle.machine.specs.Memories.{cells}
-use Rattle.machine.specs.Answers.{Stepped, machine-of, does}
-use Rattle.machine_code.specs.declared.Executor.{Executor}
+use Rattle.machine.specs.Answers.{Stepped, does}
+use Rattle.machine_step.specs.declared.Executor.{Executor}
 
 -- ---- What they give
 
@@ -27,12 +23,6 @@ done-on x m r = does (x .depth) (cells (x .depth)) (x .last) (x .machine) m r
 abbrev pub Steps : Executor → List ℕ → List ℤ → Stepped (List ℤ) → Type 0
 Steps x code m stepped = (n : ℕ) (r : Record Address) → length m ≡ x .depth + 1 + n
     → record-at (machine-kind n) code (x .machine .position) ≡ some r → stepped ≡ done-on x m r
-
--- A run is the run of the code's records, with the ticks that the count leaves of the budget
-abbrev pub Runs : Executor → List ℕ → List ℤ → ℕ → Result (Rules.Machine (List ℤ)) → Type 0
-Runs x code m budget result = (n : ℕ) (P : MachineCode) → length m ≡ x .depth + 1 + n
-    → records-from (machine-kind n) code 0 (x .last) ≡ gives P
-    → result ≡ run sum32 (x .depth) (cells (x .depth)) P (budget - x .machine .count) (machine-of (x .machine) m)
 
 -- ---- What they need
 
@@ -53,11 +43,3 @@ pub record Passed (x : Executor) (code : List ℕ) (m : List ℤ) : Type 0 where
   pub small : n ≤ 64
   pub whole : 5 * x .last ≤ length code
   pub cells-are : length m ≡ x .depth + 1 + n
-
--- A run: a machine that may stand at its code's end, with its count within the budget
-pub record Starts (x : Executor) (budget : ℕ) : Type 0 where
-  pub deep : x .depth ≤ 64
-  pub few : x .last ≤ 4096
-  pub placed : x .machine .position ≤ x .last
-  pub held : x .machine .size ≤ x .depth
-  pub used : x .machine .count ≤ budget

@@ -10,9 +10,9 @@ use Rattle.word.specs.declared.Sum.{Sum}
 use Rattle.word.proofs.Laws.{read-back}
 use Rattle.record.specs.declared.Address.{Address}
 use Rattle.machine.proofs.Doing.{Place, second, top, summed, add-stops, add-pushed, add-leaves-range}
-use Rattle.machine_code.proofs.Settings.{place}
-use Rattle.machine_code.proofs.Executor.add.Statement.{statement}
-use Rattle.machine_code.proofs.Executor.add.Tie as tie
+use Rattle.machine_step.proofs.Settings.{place}
+use Rattle.machine_step.proofs.Executor.add.Statement.{statement}
+use Rattle.machine_step.proofs.Executor.add.Tie as tie
 
 -- where the record is done
 abbrev here : tie.Start → Place (List ℤ) Address

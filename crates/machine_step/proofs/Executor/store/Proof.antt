@@ -6,9 +6,9 @@ use mir.Syntax.{w32}
 use Rattle.word.proofs.Laws.{read-back}
 use Rattle.record.specs.declared.Address.{Address}
 use Rattle.machine.proofs.Doing.{Place, store-stops, store-saved}
-use Rattle.machine_code.proofs.Settings.{place}
-use Rattle.machine_code.proofs.Executor.store.Statement.{statement}
-use Rattle.machine_code.proofs.Executor.store.Tie as tie
+use Rattle.machine_step.proofs.Settings.{place}
+use Rattle.machine_step.proofs.Executor.store.Statement.{statement}
+use Rattle.machine_step.proofs.Executor.store.Tie as tie
 
 -- where the record is done
 abbrev here : tie.Start → Place (List ℤ) Address

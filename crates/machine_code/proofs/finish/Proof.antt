@@ -20,11 +20,11 @@ use Rattle.machine.specs.Answers.{machine-of, step-of}
 use Rattle.machine.specs.declared.Machine.{Machine}
 use Rattle.machine.specs.declared.Step.the-variants.{Next, Ended}
 use Rattle.machine.proofs.Running.{Course, whole-run, Going, ends-done, ends-spent, going-on, ends-by}
-use Rattle.machine_code.specs.Steps.{done-on}
-use Rattle.machine_code.specs.declared.Executor.{Executor}
+use Rattle.machine_step.specs.Steps.{done-on}
+use Rattle.machine_step.specs.declared.Executor.{Executor}
 use Rattle.machine_code.proofs.Settings.{course}
-use Rattle.machine_code.proofs.Executor.finish.Statement.{statement}
-use Rattle.machine_code.proofs.Executor.finish.Tie as tie
+use Rattle.machine_code.proofs.finish.Statement.{statement}
+use Rattle.machine_code.proofs.finish.Tie as tie
 
 -- the records that the test of the code gives for a memory
 record Given (x : Executor) (code : List ℕ) (memory : List ℤ) : Type 0 where
@@ -53,7 +53,7 @@ abbrev μ-loop : tie.MeasureT-loop
 μ-loop code memory₀ budget depth last machine₀ memory machine = budget - machine .count
 
 -- the records that the caller had
-abbrev had : (s : tie.Start Inv-loop μ-loop) → Given (s .args .self) (s .args .code .now) (s .args .memory .now)
+abbrev had : (s : tie.Start Inv-loop μ-loop) → Given (s .args .executor) (s .args .code .now) (s .args .memory .now)
 had s = let p = s .pre .1 in record { n = p .n; P = p .records; cells-are = p .cells-are; given = p .given }
 
 begins : tie.Need-loop-holds Inv-loop μ-loop
@@ -89,7 +89,7 @@ step-requires c κs =
     let l = c .before .before .before .before .before .loop in
     let p = start .pre .1 in
     let g = l .inv .going (had start) in
-    let placed : l .machine .position ≤ start .args .self .last = g .placed in
+    let placed : l .machine .position ≤ start .args .executor .last = g .placed in
     let used : l .machine .count ≤ start .args .budget = g .used in (
       record {
         deep = start .pre .0 .deep;
@@ -129,17 +129,18 @@ module _ (c : tie.After-step Inv-loop μ-loop) where
   kept : length memory′ ≡ length (start .args .memory .now)
   kept = c .step .kept .1 .1 .0 ∙ turn .loop .inv .long
 
-  module _ (g : Given (start .args .self) (start .args .code .now) (start .args .memory .now)) where
+  module _ (g : Given (start .args .executor) (start .args .code .now) (start .args .memory .now)) where
     abbrev this : Course (List ℤ) Address
-    this = its-course (start .args .self) (start .args .code .now) (start .args .memory .now) (start .args .budget) g
+    this =
+        its-course (start .args .executor) (start .args .code .now) (start .args .memory .now) (start .args .budget) g
 
     now-due : Due (machine-kind (g .n)) (start .args .code .now) (g .P) (self .position)
     now-due =
-        let placed : self .position ≤ start .args .self .last = turn .loop .inv .going g .placed in
-        record-due (machine-kind (g .n)) (start .args .code .now) (g .P) (start .args .self .last) (self .position)
+        let placed : self .position ≤ start .args .executor .last = turn .loop .inv .going g .placed in
+        record-due (machine-kind (g .n)) (start .args .code .now) (g .P) (start .args .executor .last) (self .position)
         (g .given) (omega (arith, c .before .before .before .before .if1 .left))
 
-    did : let x = start .args .self in
+    did : let x = start .args .executor in
         let now : Executor = record { machine = self; depth = x .depth; last = x .last } in
         step-of (c .step .result) memory′ ≡ done-on now memory (now-due .due)
     did = c .step .ensures (g .n) (now-due .due) (turn .loop .inv .long ∙ g .cells-are) (now-due .there)
