@@ -1,17 +1,12 @@
--- The executor in the terms of machine's laws: where it does a record, and the course of its run.
+-- The executor in the terms of machine's laws: the course of its run.
 use mathlib.Core.Path.{_≡_}
 use Prim.Native.Nat.{ℕ}
 use lib.ListN.{length}
 use Rattle.record.specs.Records.{AssemblyCode}
 use Rattle.record.specs.declared.Variable.{Variable}
 use Rattle.machine.specs.Memories.{Assembly, assembly}
-use Rattle.machine.proofs.Doing.{Place}
 use Rattle.machine.proofs.Running.{Course}
-use Rattle.assembly.specs.declared.Executor.{Executor}
-
-abbrev pub place : Executor → Assembly → Place Assembly Variable
-place x m =
-    record { depth = length (m .stack); form = assembly; last = x .last; machine = x .machine; memory = m }
+use Rattle.assembly_step.specs.declared.Executor.{Executor}
 
 abbrev pub course : (x : Executor) → Assembly → ℕ → (P : AssemblyCode) → length P ≡ x .last → Course Assembly Variable
 course x m budget P all =

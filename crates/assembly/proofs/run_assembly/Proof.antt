@@ -17,7 +17,8 @@ use Rattle.machine.specs.Memories.{Assembly, assembly}
 use Rattle.machine.specs.Calls.{assembly-run}
 use Rattle.machine.specs.declared.Machine.{Machine}
 use Rattle.machine.proofs.Calls.{from-fresh, told, assembly-call}
-use Rattle.assembly.specs.Steps.{memory-of, Starts}
+use Rattle.assembly_step.specs.Steps.{memory-of}
+use Rattle.assembly.specs.Runs.{Starts}
 use Rattle.assembly.proofs.run_assembly.Statement.{statement}
 use Rattle.assembly.proofs.run_assembly.Tie as tie
 

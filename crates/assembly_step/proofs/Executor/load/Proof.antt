@@ -6,10 +6,10 @@ use Rattle.word.proofs.Laws.{read-back}
 use Rattle.record.specs.declared.Variable.{Variable}
 use Rattle.machine.specs.Memories.{Assembly}
 use Rattle.machine.proofs.Doing.{Place, load-is}
-use Rattle.assembly.specs.Steps.{memory-of}
-use Rattle.assembly.proofs.Settings.{place}
-use Rattle.assembly.proofs.Executor.load.Statement.{statement}
-use Rattle.assembly.proofs.Executor.load.Tie as tie
+use Rattle.assembly_step.specs.Steps.{memory-of}
+use Rattle.assembly_step.proofs.Settings.{place}
+use Rattle.assembly_step.proofs.Executor.load.Statement.{statement}
+use Rattle.assembly_step.proofs.Executor.load.Tie as tie
 
 -- where the record is done
 abbrev here : tie.Start → Place Assembly Variable

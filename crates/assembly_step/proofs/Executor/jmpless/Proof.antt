@@ -11,10 +11,10 @@ use Rattle.word.proofs.Laws.{read-back}
 use Rattle.record.specs.declared.Variable.{Variable}
 use Rattle.machine.specs.Memories.{Assembly}
 use Rattle.machine.proofs.Doing.{Place, second, top, compared, jmpless-stops, jmpless-landed, jmpless-passed}
-use Rattle.assembly.specs.Steps.{memory-of}
-use Rattle.assembly.proofs.Settings.{place}
-use Rattle.assembly.proofs.Executor.jmpless.Statement.{statement}
-use Rattle.assembly.proofs.Executor.jmpless.Tie as tie
+use Rattle.assembly_step.specs.Steps.{memory-of}
+use Rattle.assembly_step.proofs.Settings.{place}
+use Rattle.assembly_step.proofs.Executor.jmpless.Statement.{statement}
+use Rattle.assembly_step.proofs.Executor.jmpless.Tie as tie
 
 -- where the record is done
 abbrev here : tie.Start → List ℤ → Place Assembly Variable

@@ -20,11 +20,11 @@ use Rattle.machine.specs.Answers.{machine-of, step-of, does}
 use Rattle.machine.specs.declared.Machine.{Machine}
 use Rattle.machine.specs.declared.Step.the-variants.{Next, Ended}
 use Rattle.machine.proofs.Running.{Course, whole-run, Going, ends-done, ends-spent, going-on, ends-by}
-use Rattle.assembly.specs.Steps.{memory-of}
-use Rattle.assembly.specs.declared.Executor.{Executor}
+use Rattle.assembly_step.specs.Steps.{memory-of}
+use Rattle.assembly_step.specs.declared.Executor.{Executor}
 use Rattle.assembly.proofs.Settings.{course}
-use Rattle.assembly.proofs.Executor.finish.Statement.{statement}
-use Rattle.assembly.proofs.Executor.finish.Tie as tie
+use Rattle.assembly.proofs.finish.Statement.{statement}
+use Rattle.assembly.proofs.finish.Tie as tie
 
 -- the records that the test of the code gives
 record Given (x : Executor) (code : List ℕ) : Type 0 where
@@ -52,7 +52,7 @@ abbrev μ-loop : tie.MeasureT-loop
 μ-loop code store₀ stack₀ budget last machine₀ store stack machine = budget - machine .count
 
 -- the records that the caller had
-abbrev had : (s : tie.Start Inv-loop μ-loop) → Given (s .args .self) (s .args .code .now)
+abbrev had : (s : tie.Start Inv-loop μ-loop) → Given (s .args .executor) (s .args .code .now)
 had s = let p = s .pre .1 in record { P = p .records; given = p .given }
 
 begins : tie.Need-loop-holds Inv-loop μ-loop
@@ -87,7 +87,7 @@ step-requires c κs =
     let l = c .before .before .before .before .before .before .loop in
     let p = start .pre .1 in
     let g = l .inv .going (had start) in
-    let placed : l .machine .position ≤ start .args .self .last = g .placed in
+    let placed : l .machine .position ≤ start .args .executor .last = g .placed in
     let used : l .machine .count ≤ start .args .budget = g .used in
     let held : l .machine .size ≤ length (start .args .stack .now) = g .held in (
       record {
@@ -127,23 +127,23 @@ module _ (c : tie.After-step Inv-loop μ-loop) where
   stack-kept : length (memory′ .stack) ≡ length (start .args .stack .now)
   stack-kept = c .step .kept .1 .1 .1 .0 ∙ turn .loop .inv .stack-long
 
-  module _ (g : Given (start .args .self) (start .args .code .now)) where
+  module _ (g : Given (start .args .executor) (start .args .code .now)) where
     abbrev this : Course Assembly Variable
     this =
-        its-course (start .args .self) (start .args .code .now)
+        its-course (start .args .executor) (start .args .code .now)
         (memory-of (start .args .store .now) (start .args .stack .now)) (start .args .budget) g
 
     now-due : Due assembly-kind (start .args .code .now) (g .P) (self .position)
     now-due =
-        let placed : self .position ≤ start .args .self .last = turn .loop .inv .going g .placed in
-        record-due assembly-kind (start .args .code .now) (g .P) (start .args .self .last) (self .position) (g .given)
-        (omega (arith, c .before .before .before .before .before .if1 .left))
+        let placed : self .position ≤ start .args .executor .last = turn .loop .inv .going g .placed in
+        record-due assembly-kind (start .args .code .now) (g .P) (start .args .executor .last) (self .position)
+        (g .given) (omega (arith, c .before .before .before .before .before .if1 .left))
 
     did : step-of (c .step .result) memory′
-        ≡ does (this .depth) assembly (start .args .self .last) self memory (now-due .due)
+        ≡ does (this .depth) assembly (start .args .executor .last) self memory (now-due .due)
     did =
         c .step .ensures (now-due .due) (now-due .there)
-        ∙ ap (λ (D : ℕ). does D assembly (start .args .self .last) self memory (now-due .due))
+        ∙ ap (λ (D : ℕ). does D assembly (start .args .executor .last) self memory (now-due .due))
         (turn .loop .inv .stack-long)
 
     -- after a step that goes on

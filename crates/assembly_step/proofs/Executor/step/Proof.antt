@@ -17,9 +17,9 @@ use Rattle.record.proofs.Decoding.{variable-at-most, Due, record-due}
 use Rattle.record.proofs.Decoding.{is-loadi, is-load, is-add, is-store, is-jmp, is-jmpless, is-jmpge}
 use Rattle.machine.specs.Memories.{Assembly}
 use Rattle.machine.specs.Answers.{Stepped}
-use Rattle.assembly.specs.Steps.{memory-of, done-on}
-use Rattle.assembly.proofs.Executor.step.Statement.{statement}
-use Rattle.assembly.proofs.Executor.step.Tie as tie
+use Rattle.assembly_step.specs.Steps.{memory-of, done-on}
+use Rattle.assembly_step.proofs.Executor.step.Statement.{statement}
+use Rattle.assembly_step.proofs.Executor.step.Tie as tie
 
 -- variables are below 256
 below-256 : (u : ℕ) → assembly-kind .is-name u ≡ true → u < 256

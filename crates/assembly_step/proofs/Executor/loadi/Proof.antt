@@ -7,10 +7,10 @@ use mir.Facts.{toZ-ofZ}
 use Rattle.record.specs.declared.Variable.{Variable}
 use Rattle.machine.specs.Memories.{Assembly}
 use Rattle.machine.proofs.Doing.{Place, loadi-full, loadi-pushed}
-use Rattle.assembly.specs.Steps.{memory-of}
-use Rattle.assembly.proofs.Settings.{place}
-use Rattle.assembly.proofs.Executor.loadi.Statement.{statement}
-use Rattle.assembly.proofs.Executor.loadi.Tie as tie
+use Rattle.assembly_step.specs.Steps.{memory-of}
+use Rattle.assembly_step.proofs.Settings.{place}
+use Rattle.assembly_step.proofs.Executor.loadi.Statement.{statement}
+use Rattle.assembly_step.proofs.Executor.loadi.Tie as tie
 
 -- where the record is done
 abbrev here : tie.Start → List ℤ → Place Assembly Variable

@@ -1,22 +1,18 @@
--- What steps and runs of assembly give, and what they need.
+-- What records and steps of assembly give, and what they need.
 use mathlib.Core.Path.{_≡_}
-use Prim.Native.Nat.{ℕ, _+_, _-_, _*_, _≤_, _<_, _^_}
+use Prim.Native.Nat.{ℕ, _+_, _*_, _≤_, _<_, _^_}
 use mathlib.Core.List.{List}
 use mathlib.Core.Option.{some}
 use lib.IntN.{ℤ}
 use lib.ListN.{length}
 use Rattle.base.specs.Answers.{gives}
-use Rattle.base.specs.Ends.{Result}
-use Rattle.word.specs.Sums.{sum32}
 use Rattle.record.specs.Records.{Record, AssemblyCode}
 use Rattle.record.specs.Bytes.{assembly-kind, record-at, records-from}
 use Rattle.record.specs.declared.Variable.{Variable}
-use Rattle.machine.specs.Machine as Rules
-use Rattle.machine.specs.Machine.{run}
 use Rattle.machine.specs.Memories.{Assembly, assembly}
-use Rattle.machine.specs.Answers.{Stepped, machine-of, step-of, does}
+use Rattle.machine.specs.Answers.{Stepped, step-of, does}
 use Rattle.machine.specs.declared.Step.{Step}
-use Rattle.assembly.specs.declared.Executor.{Executor}
+use Rattle.assembly_step.specs.declared.Executor.{Executor}
 
 -- ---- What they give
 
@@ -38,11 +34,6 @@ abbrev pub Steps : Executor → List ℕ → Assembly → Stepped Assembly → T
 Steps x code m stepped = (r : Record Variable) → record-at assembly-kind code (x .machine .position) ≡ some r
     → stepped ≡ done-on x m r
 
--- A run is the run of the code's records, with the ticks that the count leaves of the budget
-abbrev pub Runs : Executor → List ℕ → Assembly → ℕ → Result (Rules.Machine Assembly) → Type 0
-Runs x code m budget result = (P : AssemblyCode) → records-from assembly-kind code 0 (x .last) ≡ gives P
-    → result ≡ run sum32 (length (m .stack)) assembly P (budget - x .machine .count) (machine-of (x .machine) m)
-
 -- ---- What they need
 
 -- A record: a machine within its code and its stack, room for the count
@@ -58,10 +49,3 @@ pub record Passed (x : Executor) (code : List ℕ) (store : List ℤ) : Type 0 w
   pub given : records-from assembly-kind code 0 (x .last) ≡ gives records
   pub whole : 5 * x .last ≤ length code
   pub sized : length store ≡ 64
-
--- A run: a machine that may stand at its code's end, with its count within the budget
-pub record Starts (x : Executor) (stack : List ℤ) (budget : ℕ) : Type 0 where
-  pub few : x .last ≤ 4096
-  pub placed : x .machine .position ≤ x .last
-  pub held : x .machine .size ≤ length stack
-  pub used : x .machine .count ≤ budget
