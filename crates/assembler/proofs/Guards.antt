@@ -17,10 +17,10 @@ use Rattle.record.specs.declared.Variable.{Variable}
 use Rattle.buffer.proofs.Written.{Written, rest, back, rest-size, kept, behind, after, before}
 use Rattle.compile.specs.Compilation.{ccomp}
 use Rattle.compile.proofs.Sizes.{condition-count}
-use Rattle.assembler.specs.Parts.{jumping, Counts, Writable, Wrote, Writes}
-use Rattle.assembler.specs.declared.Part.{Part}
-use Rattle.assembler.proofs.Rows.{stands}
-use Rattle.assembler.proofs.Fronts.{Front, test-size, others-room, start}
+use Rattle.condition_writer.specs.Parts.{jumping, Counts, Writable, Wrote, Writes}
+use Rattle.condition_writer.specs.declared.Part.{Part}
+use Rattle.condition_writer.proofs.Rows.{stands}
+use Rattle.condition_writer.proofs.Fronts.{Front, test-size, others-room, start}
 
 -- A condition and a command that are read in a row, from i up to j; T are their records and then R
 pub record Guard (r : Reader Condition) (s : Reader Command) (test : Condition) (body : Command) (R T : AssemblyCode)

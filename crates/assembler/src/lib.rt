@@ -2,304 +2,20 @@
 // Each part's writer gets the buffer from where the part's records are to stand. Where a jump's distance is known only
 // after the records that it jumps over, these are written first, where they will stand.
 ghost use mathlib.Core.Path.{_≡_};
-ghost use mathlib.Core.Bool.{Bool·beq};
-ghost use Prim.Native.Nat.{_+_, _<_};
+ghost use Prim.Native.Nat.{_<_};
 ghost use lib.IntN.{negsuc};
 ghost use lib.ListN.{getD};
-ghost use Rattle.base.specs.Acts.{if_then_else_};
 ghost use Rattle.text.specs.Answers.{answer};
-ghost use Rattle.reader.specs.Answers.{expression-parts};
-ghost use Rattle.text.specs.Reading.{plus, expression, condition, command};
-ghost use Rattle.text.specs.Sizes.{expression-records, condition-records};
-ghost use Rattle.compile.specs.Compilation.{acomp, ccomp};
+ghost use Rattle.text.specs.Reading.{command};
+ghost use Rattle.compile.specs.Compilation.{ccomp};
 ghost use Rattle.compile.specs.Calls.{assemble};
-ghost use Rattle.assembler.specs.Parts.{jumping, Countable, Counts, Writable, Writes};
+ghost use Rattle.condition_writer.specs.Parts.{Writable, Writes};
+use condition_writer::Part;
 use text::Reading;
-
-const LOADI: u8 = 0x40;
-
-const LOAD: u8 = 0x41;
-
-const ADD: u8 = 0x42;
 
 const STORE: u8 = 0x43;
 
 const JMP: u8 = 0x44;
-
-const JMPLESS: u8 = 0x45;
-
-const JMPGE: u8 = 0x46;
-
-// A part that was measured or written: the position after it, and how many records it has.
-pub struct Part {
-    pub next: usize,
-    pub records: usize,
-}
-
-// ---- Sizes
-
-// How many records the two expressions of a Plus or a Less have, and one more; `left` is the nesting left for them.
-fn two_sizes(text: &[u8], at: usize, left: usize) -> Part
-    requires { ⌜ Countable expression-records (expression-parts (now text) left plus at) ⌝ }
-    ensures { λ r. ⌜ Counts expression-records (expression-parts (now (text .entry)) left plus at) r ⌝ }
-{
-    let first = expression_size(text, at + 1, left);
-    let middle = first.next;
-    let second = expression_size(text, middle, left);
-    Part {
-        next: second.next,
-        records: first.records + second.records + 1,
-    }
-}
-
-// How many records an expression has.
-fn expression_size(text: &[u8], at: usize, left: usize) -> Part
-    requires { ⌜ Countable expression-records (expression (now text) left at) ⌝ }
-    ensures { λ r. ⌜ Counts expression-records (expression (now (text .entry)) left at) r ⌝ }
-{
-    let byte = text[at];
-    if byte == 0x10 {
-        return Part {
-            next: at + 5,
-            records: 1,
-        };
-    }
-    if byte == 0x11 {
-        return Part {
-            next: at + 2,
-            records: 1,
-        };
-    }
-    two_sizes(text, at, left - 1)
-}
-
-// How many records Bc has under a flag: one if its value equals the flag.
-fn value_size(value: bool, flag: bool) -> usize
-    ensures { λ r. ⌜ r ≡ (if Bool·beq value flag then 1 else 0) ⌝ }
-{
-    if value {
-        if flag { 1 } else { 0 }
-    } else {
-        if flag { 0 } else { 1 }
-    }
-}
-
-// How many records a Not has under a flag: its condition's under the other flag.
-fn inverse_size(text: &[u8], at: usize, left: usize, flag: bool) -> Part
-    requires { ⌜ getD (now text) at 0 ≡ 0x21 ⌝ }
-    requires { ⌜ Countable (λ b. condition-records b flag) (condition (now text) left at) ⌝ }
-    ensures { λ r. ⌜ Counts (λ b. condition-records b flag) (condition (now (text .entry)) left at) r ⌝ }
-{
-    condition_size(text, at + 1, left - 1, !flag)
-}
-
-// How many records an And has under a flag: its left side's under false, and its right side's under the flag.
-fn both_size(text: &[u8], at: usize, left: usize, flag: bool) -> Part
-    requires { ⌜ getD (now text) at 0 ≡ 0x22 ⌝ }
-    requires { ⌜ Countable (λ b. condition-records b flag) (condition (now text) left at) ⌝ }
-    ensures { λ r. ⌜ Counts (λ b. condition-records b flag) (condition (now (text .entry)) left at) r ⌝ }
-{
-    let first = condition_size(text, at + 1, left - 1, false);
-    let middle = first.next;
-    let second = condition_size(text, middle, left - 1, flag);
-    Part {
-        next: second.next,
-        records: first.records + second.records,
-    }
-}
-
-// How many records a Less has, under either flag: its two sides', and one more.
-fn less_size(text: &[u8], at: usize, left: usize, flag: bool) -> Part
-    requires { ⌜ getD (now text) at 0 ≡ 0x23 ⌝ }
-    requires { ⌜ Countable (λ b. condition-records b flag) (condition (now text) left at) ⌝ }
-    ensures { λ r. ⌜ Counts (λ b. condition-records b flag) (condition (now (text .entry)) left at) r ⌝ }
-{
-    two_sizes(text, at, left - 1)
-}
-
-// How many records a condition has under a flag.
-fn condition_size(text: &[u8], at: usize, left: usize, flag: bool) -> Part
-    requires { ⌜ Countable (λ b. condition-records b flag) (condition (now text) left at) ⌝ }
-    ensures { λ r. ⌜ Counts (λ b. condition-records b flag) (condition (now (text .entry)) left at) r ⌝ }
-{
-    let byte = text[at];
-    if byte == 0x20 {
-        return Part {
-            next: at + 2,
-            records: value_size(text[at + 1] == 1, flag),
-        };
-    }
-    if byte == 0x21 {
-        return inverse_size(text, at, left, flag);
-    }
-    if byte == 0x22 {
-        return both_size(text, at, left, flag);
-    }
-    less_size(text, at, left, flag)
-}
-
-// ---- Expressions
-
-// A constant's or a variable's record. (The nesting left is for the contract alone.)
-fn write_leaf(text: &[u8], at: usize, left: usize, out: &mut [u8]) -> Part
-    requires { ⌜ (getD (now text) at 0 ≡ 0x12 → ⊥) ⌝ }
-    requires { ⌜ Writable acomp 0 (expression (now text) left at) (now out) ⌝ }
-    ensures { λ r. ⌜ Writes acomp (expression (now (text .entry)) left at) (now (out .entry)) (now (out .exit)) r ⌝ }
-{
-    if text[at] == 0x10 {
-        let number = word::number_at(text, at + 1);
-        buffer::put_record(out, 0, LOADI, number);
-        return Part {
-            next: at + 5,
-            records: 1,
-        };
-    }
-    buffer::put_record(out, 0, LOAD, text[at + 1] as i32);
-    Part {
-        next: at + 2,
-        records: 1,
-    }
-}
-
-// An expression's records: a sum's are both sides', and ADD.
-fn write_expression(text: &[u8], at: usize, left: usize, out: &mut [u8]) -> Part
-    requires { ⌜ Writable acomp 0 (expression (now text) left at) (now out) ⌝ }
-    ensures { λ r. ⌜ Writes acomp (expression (now (text .entry)) left at) (now (out .entry)) (now (out .exit)) r ⌝ }
-{
-    if text[at] != 0x12 {
-        return write_leaf(text, at, left, out);
-    }
-    let first = write_side(text, at + 1, left - 1, out);
-    let middle = first.next;
-    let n = first.records;
-    let start = 5 * n;
-    let second = write_side(text, middle, left - 1, &mut out[start..]);
-    let m = n + second.records;
-    buffer::put_record(out, m, ADD, 0);
-    Part {
-        next: second.next,
-        records: m + 1,
-    }
-}
-
-// The same for a side of a sum or of a comparison: a constant or a variable is written here, and only a sum is a call.
-fn write_side(text: &[u8], at: usize, left: usize, out: &mut [u8]) -> Part
-    requires { ⌜ Writable acomp 0 (expression (now text) left at) (now out) ⌝ }
-    ensures { λ r. ⌜ Writes acomp (expression (now (text .entry)) left at) (now (out .entry)) (now (out .exit)) r ⌝ }
-{
-    if text[at] == 0x12 {
-        return write_expression(text, at, left, out);
-    }
-    write_leaf(text, at, left, out)
-}
-
-// ---- Conditions
-
-// The comparing jump under a flag.
-fn compare(flag: bool) -> u8
-    ensures { λ r. ⌜ r ≡ (if flag then 0x45 else 0x46) ⌝ }
-{
-    if flag { JMPLESS } else { JMPGE }
-}
-
-// A comparison's records: both sides, and the jump.
-fn write_less(
-    text: &[u8],
-    at: usize,
-    left: usize,
-    flag: bool,
-    distance: usize,
-    out: &mut [u8],
-) -> Part
-    requires { ⌜ getD (now text) at 0 ≡ 0x23 ⌝ }
-    requires { ⌜ Writable (jumping flag distance) distance (condition (now text) left at) (now out) ⌝ }
-    ensures { λ r. ⌜ Writes (jumping flag distance) (condition (now (text .entry)) left at) (now (out .entry))
-        (now (out .exit)) r ⌝ }
-{
-    let first = write_side(text, at + 1, left - 1, out);
-    let middle = first.next;
-    let n = first.records;
-    let start = 5 * n;
-    let second = write_side(text, middle, left - 1, &mut out[start..]);
-    let m = n + second.records;
-    buffer::put_record(out, m, compare(flag), distance as i32);
-    Part {
-        next: second.next,
-        records: m + 1,
-    }
-}
-
-// How far And's left side jumps: over the right side, and as far as And where the flag is false.
-fn reach(flag: bool, right: usize, distance: usize) -> usize
-    requires { ⌜ right + distance < 2147483648 ⌝ }
-    ensures { λ r. ⌜ r ≡ (if flag then right else right + distance) ⌝ }
-{
-    if flag { right } else { right + distance }
-}
-
-// And's records: the left side's, which jump over the right side's where the left is false, and the right side's. The
-// right side is written where it will stand, then the left side.
-fn write_and(
-    text: &[u8],
-    at: usize,
-    left: usize,
-    flag: bool,
-    distance: usize,
-    out: &mut [u8],
-) -> Part
-    requires { ⌜ getD (now text) at 0 ≡ 0x22 ⌝ }
-    requires { ⌜ Writable (jumping flag distance) distance (condition (now text) left at) (now out) ⌝ }
-    ensures { λ r. ⌜ Writes (jumping flag distance) (condition (now (text .entry)) left at) (now (out .entry))
-        (now (out .exit)) r ⌝ }
-{
-    let first = condition_size(text, at + 1, left - 1, false);
-    let middle = first.next;
-    let n = first.records;
-    let start = 5 * n;
-    let second = write_condition(text, middle, left - 1, flag, distance, &mut out[start..]);
-    let m = second.records;
-    write_condition(text, at + 1, left - 1, false, reach(flag, m, distance), out);
-    Part {
-        next: second.next,
-        records: n + m,
-    }
-}
-
-// A condition's records under a flag: they jump over `distance` records where its value is the flag.
-fn write_condition(
-    text: &[u8],
-    at: usize,
-    left: usize,
-    flag: bool,
-    distance: usize,
-    out: &mut [u8],
-) -> Part
-    requires { ⌜ Writable (jumping flag distance) distance (condition (now text) left at) (now out) ⌝ }
-    ensures { λ r. ⌜ Writes (jumping flag distance) (condition (now (text .entry)) left at) (now (out .entry))
-        (now (out .exit)) r ⌝ }
-{
-    let byte = text[at];
-    if byte == 0x20 {
-        if value_size(text[at + 1] == 1, flag) == 0 {
-            return Part {
-                next: at + 2,
-                records: 0,
-            };
-        }
-        buffer::put_record(out, 0, JMP, distance as i32);
-        return Part {
-            next: at + 2,
-            records: 1,
-        };
-    }
-    if byte == 0x21 {
-        return write_condition(text, at + 1, left - 1, !flag, distance, out);
-    }
-    if byte == 0x22 {
-        return write_and(text, at, left, flag, distance, out);
-    }
-    write_less(text, at, left, flag, distance, out)
-}
 
 // ---- Commands
 
@@ -317,7 +33,7 @@ fn write_assignment(text: &[u8], at: usize, left: usize, out: &mut [u8]) -> Part
     requires { ⌜ Writable ccomp 0 (command (now text) left at) (now out) ⌝ }
     ensures { λ r. ⌜ Writes ccomp (command (now (text .entry)) left at) (now (out .entry)) (now (out .exit)) r ⌝ }
 {
-    let value = write_expression(text, at + 2, left - 1, out);
+    let value = condition_writer::write_expression(text, at + 2, left - 1, out);
     let n = value.records;
     buffer::put_record(out, n, STORE, text[at + 1] as i32);
     Part {
@@ -350,7 +66,7 @@ fn write_if(text: &[u8], at: usize, left: usize, out: &mut [u8]) -> Part
     requires { ⌜ Writable ccomp 0 (command (now text) left at) (now out) ⌝ }
     ensures { λ r. ⌜ Writes ccomp (command (now (text .entry)) left at) (now (out .entry)) (now (out .exit)) r ⌝ }
 {
-    let test = condition_size(text, at + 1, left - 1, false);
+    let test = condition_writer::condition_size(text, at + 1, left - 1, false);
     let then = test.next;
     let t = test.records;
     let start = 5 * t;
@@ -362,7 +78,7 @@ fn write_if(text: &[u8], at: usize, left: usize, out: &mut [u8]) -> Part
     let no = write_command(text, otherwise, left - 1, &mut out[rest..]);
     let m = no.records;
     buffer::put_record(out, jump, JMP, m as i32);
-    write_condition(text, at + 1, left - 1, false, n + 1, out);
+    condition_writer::write_condition(text, at + 1, left - 1, false, n + 1, out);
     Part {
         next: no.next,
         records: jump + 1 + m,
@@ -376,7 +92,7 @@ fn write_while(text: &[u8], at: usize, left: usize, out: &mut [u8]) -> Part
     requires { ⌜ Writable ccomp 0 (command (now text) left at) (now out) ⌝ }
     ensures { λ r. ⌜ Writes ccomp (command (now (text .entry)) left at) (now (out .entry)) (now (out .exit)) r ⌝ }
 {
-    let test = condition_size(text, at + 1, left - 1, false);
+    let test = condition_writer::condition_size(text, at + 1, left - 1, false);
     let then = test.next;
     let t = test.records;
     let start = 5 * t;
@@ -384,7 +100,7 @@ fn write_while(text: &[u8], at: usize, left: usize, out: &mut [u8]) -> Part
     let size = body.records;
     let jump = t + size;
     buffer::put_record(out, jump, JMP, back_over(jump));
-    write_condition(text, at + 1, left - 1, false, size + 1, out);
+    condition_writer::write_condition(text, at + 1, left - 1, false, size + 1, out);
     Part {
         next: body.next,
         records: jump + 1,

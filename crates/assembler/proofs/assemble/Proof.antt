@@ -16,7 +16,7 @@ use Rattle.text.proofs.Opened.{taken, read-gives}
 use Rattle.compile.specs.Compilation.{ccomp}
 use Rattle.compile.proofs.Calls.{read-fits, assembled}
 use Rattle.compile.proofs.Sizes.{record-count}
-use Rattle.assembler.specs.Parts.{Writable}
+use Rattle.condition_writer.specs.Parts.{Writable}
 use Rattle.assembler.proofs.Calls.{declined, too-short, sizes-told}
 use Rattle.assembler.proofs.assemble.Statement.{statement}
 use Rattle.assembler.proofs.assemble.Tie as tie

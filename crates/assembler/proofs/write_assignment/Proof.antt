@@ -14,8 +14,8 @@ use Rattle.record.specs.Bytes.{assembly-kind, first-byte, operand}
 use Rattle.buffer.proofs.Written.{Written, one}
 use Rattle.compile.specs.Compilation.{acomp, ccomp}
 use Rattle.text.proofs.Opened as text-says
-use Rattle.assembler.proofs.Rows as rows
-use Rattle.assembler.proofs.Rows.{Led}
+use Rattle.condition_writer.proofs.Rows as rows
+use Rattle.condition_writer.proofs.Rows.{Led}
 use Rattle.assembler.proofs.write_assignment.Statement.{statement}
 use Rattle.assembler.proofs.write_assignment.Tie as tie
 

@@ -14,18 +14,18 @@ use Rattle.record.specs.Records.{ADD}
 use Rattle.record.specs.Bytes.{assembly-kind, first-byte, operand}
 use Rattle.buffer.proofs.Written.{Written, kept, one}
 use Rattle.compile.specs.Compilation.{acomp}
-use Rattle.assembler.proofs.Rows as rows
-use Rattle.assembler.proofs.Rows.{Row, row}
+use Rattle.condition_writer.proofs.Rows as rows
+use Rattle.condition_writer.proofs.Rows.{Row, row}
 use Rattle.buffer.proofs.put_record.Reads as put-record
-use Rattle.assembler.proofs.write_leaf.Reads as write-leaf
-use Rattle.assembler.proofs.write_expression.Reads as write-expression
-use Rattle.assembler.proofs.write_expression.Kinds as kinds
-use Rattle.assembler.proofs.write_side.Reads as write-side
-use Rattle.assembler.proofs.write_side.Kinds as side-kinds
-use Rattle.assembler.proofs.+write_expression+write_side.Lts-write_expression as lts
-use Rattle.assembler.proofs.+write_expression+write_side.Lts-write_side as side-lts
-use Rattle.assembler.proofs.+write_expression+write_side.{statement}
-use Rattle.assembler.proofs.+write_expression+write_side.Tie.{close}
+use Rattle.condition_writer.proofs.write_leaf.Reads as write-leaf
+use Rattle.condition_writer.proofs.write_expression.Reads as write-expression
+use Rattle.condition_writer.proofs.write_expression.Kinds as kinds
+use Rattle.condition_writer.proofs.write_side.Reads as write-side
+use Rattle.condition_writer.proofs.write_side.Kinds as side-kinds
+use Rattle.condition_writer.proofs.+write_expression+write_side.Lts-write_expression as lts
+use Rattle.condition_writer.proofs.+write_expression+write_side.Lts-write_side as side-lts
+use Rattle.condition_writer.proofs.+write_expression+write_side.{statement}
+use Rattle.condition_writer.proofs.+write_expression+write_side.Tie.{close}
 
 abbrev μ : Measures 2 kinds.ps ℕ
 μ κs a = a .1 .1 .0 + a .1 .1 .0

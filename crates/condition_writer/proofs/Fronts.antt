@@ -17,9 +17,9 @@ use Rattle.record.specs.Bytes.{assembly-kind}
 use Rattle.buffer.proofs.Written.{Written, rest, back, rest-size, kept, behind, before}
 use Rattle.compile.specs.Compilation.{bcomp}
 use Rattle.compile.proofs.Sizes.{condition-count}
-use Rattle.assembler.specs.Parts.{jumping, Countable, Counts, Writable, Wrote, Writes}
-use Rattle.assembler.specs.declared.Part.{Part}
-use Rattle.assembler.proofs.Rows.{stands}
+use Rattle.condition_writer.specs.Parts.{jumping, Countable, Counts, Writable, Wrote, Writes}
+use Rattle.condition_writer.specs.declared.Part.{Part}
+use Rattle.condition_writer.proofs.Rows.{stands}
 
 -- A condition that is read at i, jumping over `distance` records, in front of the records Q; T are the records of both
 pub record Front (r : Reader Condition) (distance : ℕ) (Q T : AssemblyCode) (i : ℕ) (old : List ℕ) : Type 0 where

@@ -15,10 +15,10 @@ use Rattle.record.specs.Records.{LOADI, LOAD, variable}
 use Rattle.record.specs.Bytes.{first-byte, operand}
 use Rattle.buffer.proofs.Written.{one}
 use Rattle.compile.specs.Compilation.{acomp}
-use Rattle.assembler.proofs.Leaves.{Leaf, leaf}
-use Rattle.assembler.proofs.Rows as rows
-use Rattle.assembler.proofs.write_leaf.Statement.{statement}
-use Rattle.assembler.proofs.write_leaf.Tie as tie
+use Rattle.condition_writer.proofs.Leaves.{Leaf, leaf}
+use Rattle.condition_writer.proofs.Rows as rows
+use Rattle.condition_writer.proofs.write_leaf.Statement.{statement}
+use Rattle.condition_writer.proofs.write_leaf.Tie as tie
 
 stands : (s : tie.Start) → text-says.Opened (s .args .text .now) (s .args .left) (s .args .at)
 stands s = text-says.expression-opened (s .args .text .now) (s .args .left) (s .args .at) (s .pre .1 .is)

@@ -15,12 +15,12 @@ use Rattle.record.specs.Bytes.{assembly-kind, first-byte, operand}
 use Rattle.record.specs.declared.Variable.{Variable}
 use Rattle.buffer.proofs.Written.{Written, one}
 use Rattle.compile.specs.Compilation.{acomp, bcomp}
-use Rattle.assembler.specs.Parts.{jumping}
+use Rattle.condition_writer.specs.Parts.{jumping}
 use Rattle.text.proofs.Opened as text-says
-use Rattle.assembler.proofs.Rows as rows
-use Rattle.assembler.proofs.Rows.{Row, row}
-use Rattle.assembler.proofs.write_less.Statement.{statement}
-use Rattle.assembler.proofs.write_less.Tie as tie
+use Rattle.condition_writer.proofs.Rows as rows
+use Rattle.condition_writer.proofs.Rows.{Row, row}
+use Rattle.condition_writer.proofs.write_less.Statement.{statement}
+use Rattle.condition_writer.proofs.write_less.Tie as tie
 
 -- The jump under a flag,
 abbrev jump : Bool → ℕ → Record Variable

@@ -21,25 +21,25 @@ use Rattle.record.specs.Records.{AssemblyCode, JMP}
 use Rattle.record.specs.Bytes.{assembly-kind, first-byte, operand}
 use Rattle.buffer.proofs.Written.{Written, kept, one, back}
 use Rattle.compile.specs.Compilation.{bcomp}
-use Rattle.assembler.specs.Parts.{jumping}
+use Rattle.condition_writer.specs.Parts.{jumping}
 use Rattle.text.proofs.Opened as text-says
-use Rattle.assembler.proofs.Leaves.{Leaf, leaf}
-use Rattle.assembler.proofs.Rows as rows
-use Rattle.assembler.proofs.Fronts as fronts
-use Rattle.assembler.proofs.Fronts.{Front, Sides}
+use Rattle.condition_writer.proofs.Leaves.{Leaf, leaf}
+use Rattle.condition_writer.proofs.Rows as rows
+use Rattle.condition_writer.proofs.Fronts as fronts
+use Rattle.condition_writer.proofs.Fronts.{Front, Sides}
 use Rattle.buffer.proofs.put_record.Reads as put-record
-use Rattle.assembler.proofs.value_size.Reads as value-size
-use Rattle.assembler.proofs.condition_size.Reads as condition-size
-use Rattle.assembler.proofs.reach.Reads as reach
-use Rattle.assembler.proofs.write_less.Reads as write-less
-use Rattle.assembler.proofs.write_condition.Reads as write-condition
-use Rattle.assembler.proofs.write_condition.Kinds as kinds
-use Rattle.assembler.proofs.write_and.Reads as write-and
-use Rattle.assembler.proofs.write_and.Kinds as and-kinds
-use Rattle.assembler.proofs.+write_and+write_condition.Lts-write_condition as lts
-use Rattle.assembler.proofs.+write_and+write_condition.Lts-write_and as and-lts
-use Rattle.assembler.proofs.+write_and+write_condition.{statement}
-use Rattle.assembler.proofs.+write_and+write_condition.Tie.{close}
+use Rattle.condition_writer.proofs.value_size.Reads as value-size
+use Rattle.condition_writer.proofs.condition_size.Reads as condition-size
+use Rattle.condition_writer.proofs.reach.Reads as reach
+use Rattle.condition_writer.proofs.write_less.Reads as write-less
+use Rattle.condition_writer.proofs.write_condition.Reads as write-condition
+use Rattle.condition_writer.proofs.write_condition.Kinds as kinds
+use Rattle.condition_writer.proofs.write_and.Reads as write-and
+use Rattle.condition_writer.proofs.write_and.Kinds as and-kinds
+use Rattle.condition_writer.proofs.+write_and+write_condition.Lts-write_condition as lts
+use Rattle.condition_writer.proofs.+write_and+write_condition.Lts-write_and as and-lts
+use Rattle.condition_writer.proofs.+write_and+write_condition.{statement}
+use Rattle.condition_writer.proofs.+write_and+write_condition.Tie.{close}
 
 -- ---- Bc: no record, or the jump
 

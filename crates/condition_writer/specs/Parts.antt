@@ -12,7 +12,7 @@ use Rattle.text.specs.Reading.{Refusal}
 use Rattle.record.specs.Records.{AssemblyCode}
 use Rattle.record.specs.Bytes.{assembly-kind, code-bytes, over}
 use Rattle.compile.specs.Compilation.{bcomp}
-use Rattle.assembler.specs.declared.Part.{Part}
+use Rattle.condition_writer.specs.declared.Part.{Part}
 
 -- A condition's records under a flag, which jump over `distance` records where its value is the flag
 abbrev pub jumping : Bool → ℕ → Condition → AssemblyCode

@@ -1,0 +1,4 @@
+pub mod Leaves
+pub mod Counting
+pub mod Rows
+pub mod Fronts
