@@ -57,3 +57,23 @@ fn definitions() {
     }
     assert!(count > 80);
 }
+
+/// `crate::a, b` are functions of `crates/crate/src/lib.rt`.
+#[test]
+fn functions() {
+    let mut count = 0;
+    for document in ["README.md", "docs/DECISIONS.md", "docs/READERS.md"] {
+        for quote in quoted(document) {
+            let Some((layer, names)) = quote.split_once("::") else { continue };
+            if !is_crate(layer) {
+                continue;
+            }
+            let text = std::fs::read_to_string(root().join("crates").join(layer).join("src/lib.rt")).unwrap();
+            for name in names.split(", ") {
+                assert!(text.contains(&format!("fn {name}(")), "{document}: {layer}::{name}");
+                count += 1;
+            }
+        }
+    }
+    assert!(count > 15);
+}

@@ -10,12 +10,11 @@ ghost use Rattle.text.specs.Reading.{command};
 ghost use Rattle.compile.specs.Compilation.{ccomp};
 ghost use Rattle.compile.specs.Calls.{assemble};
 ghost use Rattle.condition_writer.specs.Parts.{Writable, Writes};
+use condition_writer::JMP;
 use condition_writer::Part;
 use text::Reading;
 
 const STORE: u8 = 0x43;
-
-const JMP: u8 = 0x44;
 
 // ---- Commands
 

@@ -18,7 +18,7 @@ const LOAD: u8 = 0x41;
 
 const ADD: u8 = 0x42;
 
-const JMP: u8 = 0x44;
+pub const JMP: u8 = 0x44;
 
 const JMPLESS: u8 = 0x45;
 
