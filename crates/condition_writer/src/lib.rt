@@ -6,7 +6,7 @@ ghost use mathlib.Core.Bool.{Bool·beq};
 ghost use Prim.Native.Nat.{_+_, _<_};
 ghost use lib.ListN.{getD};
 ghost use Rattle.base.specs.Acts.{if_then_else_};
-ghost use Rattle.reader.specs.Answers.{expression-parts};
+ghost use Rattle.condition_reader.specs.Answers.{expression-parts};
 ghost use Rattle.text.specs.Reading.{plus, expression, condition};
 ghost use Rattle.text.specs.Sizes.{expression-records, condition-records};
 ghost use Rattle.compile.specs.Compilation.{acomp};

@@ -8,7 +8,7 @@ use Rattle.text.specs.Syntax.{Plus, Condition, Less}
 use Rattle.text.specs.Reading.{plus, pass, expression-of, expression}
 use Rattle.text.specs.Sizes.{expression-records, condition-records}
 use Rattle.text.proofs.Opened as text-says
-use Rattle.reader.specs.Answers.{expression-parts}
+use Rattle.condition_reader.specs.Answers.{expression-parts}
 use Rattle.condition_writer.proofs.Counting.{told}
 use Rattle.condition_writer.proofs.less_size.Statement.{statement}
 use Rattle.condition_writer.proofs.less_size.Tie as tie

@@ -15,25 +15,25 @@ use Rattle.text.specs.Reading.{decline, operand, condition-of}
 use Rattle.text.specs.Reading.{condition as reading}
 use Rattle.text.specs.Sizes.{condition-records, condition-depth, condition-names}
 use Rattle.text.specs.Encoding.{Bytes}
-use Rattle.reader.specs.Answers.{conditions, values}
+use Rattle.condition_reader.specs.Answers.{conditions, values}
 use Rattle.text.proofs.Heads as heads
 use Rattle.text.proofs.Heads.{is-truth, is-negation, is-conjunction, is-comparison, is-no-condition}
-use Rattle.reader.proofs.Parts.{next-given, after, Alike, declines, one, first-ends, two}
-use Rattle.reader.proofs.Bounds.{room, condition-small}
-use Rattle.reader.proofs.condition.Reads as condition
-use Rattle.reader.proofs.condition.Kinds as condition-kinds
-use Rattle.reader.proofs.+condition+conjunction+negation.Lts-condition as condition-lts
-use Rattle.reader.proofs.conjunction.Reads as conjunction
-use Rattle.reader.proofs.conjunction.Kinds as conjunction-kinds
-use Rattle.reader.proofs.+condition+conjunction+negation.Lts-conjunction as conjunction-lts
-use Rattle.reader.proofs.negation.Reads as negation
-use Rattle.reader.proofs.negation.Kinds as negation-kinds
-use Rattle.reader.proofs.+condition+conjunction+negation.Lts-negation as negation-lts
-use Rattle.reader.proofs.joined.Reads as joined-reads
-use Rattle.reader.proofs.two_expressions.Reads as two-expressions-reads
-use Rattle.reader.proofs.value.Reads as value-reads
-use Rattle.reader.proofs.+condition+conjunction+negation.{statement}
-use Rattle.reader.proofs.+condition+conjunction+negation.Tie.{close}
+use Rattle.condition_reader.proofs.Parts.{next-given, after, Alike, declines, one, first-ends, two}
+use Rattle.condition_reader.proofs.Bounds.{room, condition-small}
+use Rattle.condition_reader.proofs.condition.Reads as condition
+use Rattle.condition_reader.proofs.condition.Kinds as condition-kinds
+use Rattle.condition_reader.proofs.+condition+conjunction+negation.Lts-condition as condition-lts
+use Rattle.condition_reader.proofs.conjunction.Reads as conjunction
+use Rattle.condition_reader.proofs.conjunction.Kinds as conjunction-kinds
+use Rattle.condition_reader.proofs.+condition+conjunction+negation.Lts-conjunction as conjunction-lts
+use Rattle.condition_reader.proofs.negation.Reads as negation
+use Rattle.condition_reader.proofs.negation.Kinds as negation-kinds
+use Rattle.condition_reader.proofs.+condition+conjunction+negation.Lts-negation as negation-lts
+use Rattle.condition_reader.proofs.joined.Reads as joined-reads
+use Rattle.condition_reader.proofs.two_expressions.Reads as two-expressions-reads
+use Rattle.condition_reader.proofs.value.Reads as value-reads
+use Rattle.condition_reader.proofs.+condition+conjunction+negation.{statement}
+use Rattle.condition_reader.proofs.+condition+conjunction+negation.Tie.{close}
 
 -- ---- Sizes
 

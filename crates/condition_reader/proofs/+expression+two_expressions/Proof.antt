@@ -15,22 +15,22 @@ use Rattle.text.specs.Reading.{expression as reading}
 use Rattle.text.specs.Sizes.{expression-records, expression-depth, expression-names}
 use Rattle.text.specs.Sizes.{condition-records, condition-depth, condition-names}
 use Rattle.text.specs.Encoding.{Bytes}
-use Rattle.reader.specs.Answers.{expressions, conditions, numbers, variables}
+use Rattle.condition_reader.specs.Answers.{expressions, conditions, numbers, variables}
 use Rattle.text.proofs.Heads as heads
 use Rattle.text.proofs.Heads.{is-constant, is-variable, is-plus, is-no-expression}
-use Rattle.reader.proofs.Parts.{next-given, after, Alike, declines, one, first-ends, two}
-use Rattle.reader.proofs.Bounds.{room, expression-small}
-use Rattle.reader.proofs.expression.Reads as expression
-use Rattle.reader.proofs.expression.Kinds as expression-kinds
-use Rattle.reader.proofs.+expression+two_expressions.Lts-expression as expression-lts
-use Rattle.reader.proofs.two_expressions.Reads as two-expressions
-use Rattle.reader.proofs.two_expressions.Kinds as two-expressions-kinds
-use Rattle.reader.proofs.+expression+two_expressions.Lts-two_expressions as two-expressions-lts
-use Rattle.reader.proofs.constant.Reads as constant-reads
-use Rattle.reader.proofs.joined.Reads as joined-reads
-use Rattle.reader.proofs.variable.Reads as variable-reads
-use Rattle.reader.proofs.+expression+two_expressions.{statement}
-use Rattle.reader.proofs.+expression+two_expressions.Tie.{close}
+use Rattle.condition_reader.proofs.Parts.{next-given, after, Alike, declines, one, first-ends, two}
+use Rattle.condition_reader.proofs.Bounds.{room, expression-small}
+use Rattle.condition_reader.proofs.expression.Reads as expression
+use Rattle.condition_reader.proofs.expression.Kinds as expression-kinds
+use Rattle.condition_reader.proofs.+expression+two_expressions.Lts-expression as expression-lts
+use Rattle.condition_reader.proofs.two_expressions.Reads as two-expressions
+use Rattle.condition_reader.proofs.two_expressions.Kinds as two-expressions-kinds
+use Rattle.condition_reader.proofs.+expression+two_expressions.Lts-two_expressions as two-expressions-lts
+use Rattle.condition_reader.proofs.constant.Reads as constant-reads
+use Rattle.condition_reader.proofs.joined.Reads as joined-reads
+use Rattle.condition_reader.proofs.variable.Reads as variable-reads
+use Rattle.condition_reader.proofs.+expression+two_expressions.{statement}
+use Rattle.condition_reader.proofs.+expression+two_expressions.Tie.{close}
 
 -- ---- Sizes
 

@@ -6,10 +6,10 @@ use borrow.Author.Tests.{lt-leb, le-leb}
 use lib.ListN.{length}
 use Rattle.base.specs.Acts.{then′}
 use Rattle.text.specs.Reading.{there, four, number}
-use Rattle.reader.specs.Answers.{numbers}
-use Rattle.reader.proofs.Parts.{marked-none, declines, tells}
-use Rattle.reader.proofs.constant.Statement.{statement}
-use Rattle.reader.proofs.constant.Tie as tie
+use Rattle.condition_reader.specs.Answers.{numbers}
+use Rattle.condition_reader.proofs.Parts.{marked-none, declines, tells}
+use Rattle.condition_reader.proofs.constant.Statement.{statement}
+use Rattle.condition_reader.proofs.constant.Tie as tie
 
 pub constant-spec : {M : Type 1} → statement M
 unfolding number there four then′

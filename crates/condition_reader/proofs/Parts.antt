@@ -12,9 +12,9 @@ use lib.Seq.{getD-set-same, getD-set-other}
 use borrow.Author.Tests.{eqb-true, eqb-false}
 use Rattle.base.specs.Acts.{Outcome, ok, ended, then′, _>>=_, _>>_, give, if_then_else_}
 use Rattle.text.specs.Reading.{Refusal, refusal, Reader, pass}
-use Rattle.reader.specs.Answers.{Sized, Marked, Told, Answered, Given, together}
-use Rattle.reader.specs.declared.Part.{Part}
-use Rattle.reader.specs.declared.Part.the-variants.{Read, Refused}
+use Rattle.condition_reader.specs.Answers.{Sized, Marked, Told, Answered, Given, together}
+use Rattle.condition_reader.specs.declared.Part.{Part}
+use Rattle.condition_reader.specs.declared.Part.the-variants.{Read, Refused}
 
 -- ---- Marks
 

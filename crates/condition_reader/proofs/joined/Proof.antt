@@ -2,9 +2,9 @@
 -- In the answers f and s are the places where the first and the second part were found to be read.
 use native.Mathlib.Omega.{arith}
 use borrow.Author.Needs.{needs}
-use Rattle.reader.specs.Answers.{together, Room}
-use Rattle.reader.proofs.joined.Statement.{statement}
-use Rattle.reader.proofs.joined.Tie as tie
+use Rattle.condition_reader.specs.Answers.{together, Room}
+use Rattle.condition_reader.proofs.joined.Statement.{statement}
+use Rattle.condition_reader.proofs.joined.Tie as tie
 
 pub joined-spec : {M : Type 1} → statement M
 unfolding together Room
