@@ -14,9 +14,9 @@ use Rattle.text.proofs.Opened.{Two, Three}
 use Rattle.record.specs.Records.{Record, AssemblyCode, JMP}
 use Rattle.record.specs.Bytes.{assembly-kind}
 use Rattle.record.specs.declared.Variable.{Variable}
-use Rattle.buffer.proofs.Written.{Written, rest, back, rest-size, kept, behind, after, before}
 use Rattle.compile.specs.Compilation.{ccomp}
 use Rattle.compile.proofs.Sizes.{condition-count}
+use Rattle.buffer.proofs.Written.{Written, rest, back, rest-size, kept, behind, after, before}
 use Rattle.condition_writer.specs.Parts.{jumping, Counts, Writable, Wrote, Writes}
 use Rattle.condition_writer.specs.declared.Part.{Part}
 use Rattle.condition_writer.proofs.Rows.{stands}

@@ -10,13 +10,13 @@ use Rattle.text.specs.Syntax.{Expression, Constant, Variable, Plus, Condition, 
 use Rattle.text.specs.Reading.{Refusal, refusal, expression, condition}
 use Rattle.text.specs.Encoding.{Bytes}
 use Rattle.text.specs.Sizes.{expression-records, condition-records, expression-depth, condition-depth}
-use Rattle.condition_reader.specs.Answers.{Sized, expressions, conditions, variables, Answered, together, Room}
-use Rattle.condition_reader.specs.declared.Part.{Part}
-use Rattle.condition_reader.specs.declared.Part.the-variants.{Read, Refused}
 use Rattle.text.proofs.Standing as Standing
 use Rattle.text.proofs.Standing.{Holds, Kind, Stands}
 use Rattle.text.proofs.Decoded.{Fine, goes, ends, expression-decoded, condition-decoded}
 use Rattle.text.proofs.Sizes.{expression-short, condition-short}
+use Rattle.condition_reader.specs.Answers.{Sized, expressions, conditions, variables, Answered, together, Room}
+use Rattle.condition_reader.specs.declared.Part.{Part}
+use Rattle.condition_reader.specs.declared.Part.the-variants.{Read, Refused}
 
 -- ---- Answers with small numbers
 

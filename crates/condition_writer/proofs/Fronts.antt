@@ -14,9 +14,9 @@ use Rattle.text.specs.Sizes.{condition-records}
 use Rattle.text.specs.Reading.{Reader}
 use Rattle.record.specs.Records.{AssemblyCode}
 use Rattle.record.specs.Bytes.{assembly-kind}
-use Rattle.buffer.proofs.Written.{Written, rest, back, rest-size, kept, behind, before}
 use Rattle.compile.specs.Compilation.{bcomp}
 use Rattle.compile.proofs.Sizes.{condition-count}
+use Rattle.buffer.proofs.Written.{Written, rest, back, rest-size, kept, behind, before}
 use Rattle.condition_writer.specs.Parts.{jumping, Countable, Counts, Writable, Wrote, Writes}
 use Rattle.condition_writer.specs.declared.Part.{Part}
 use Rattle.condition_writer.proofs.Rows.{stands}

@@ -6,10 +6,10 @@ ghost use mathlib.Core.Bool.{Bool·beq};
 ghost use Prim.Native.Nat.{_+_, _<_};
 ghost use lib.ListN.{getD};
 ghost use Rattle.base.specs.Acts.{if_then_else_};
-ghost use Rattle.condition_reader.specs.Answers.{expression-parts};
 ghost use Rattle.text.specs.Reading.{plus, expression, condition};
 ghost use Rattle.text.specs.Sizes.{expression-records, condition-records};
 ghost use Rattle.compile.specs.Compilation.{acomp};
+ghost use Rattle.condition_reader.specs.Answers.{expression-parts};
 ghost use Rattle.condition_writer.specs.Parts.{jumping, Countable, Counts, Writable, Writes};
 
 const LOADI: u8 = 0x40;

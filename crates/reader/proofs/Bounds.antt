@@ -9,13 +9,13 @@ use Rattle.text.specs.Syntax.{Command, SKIP, _:=_, _⨾_, IF_THEN_ELSE_, WHILE_
 use Rattle.text.specs.Reading.{command}
 use Rattle.text.specs.Encoding.{Bytes}
 use Rattle.text.specs.Sizes.{records, depth}
-use Rattle.condition_reader.specs.Answers.{Answered}
-use Rattle.condition_reader.specs.declared.Part.{Part}
-use Rattle.reader.specs.Answers.{commands}
 use Rattle.text.proofs.Standing as Standing
 use Rattle.text.proofs.Decoded.{command-decoded}
 use Rattle.text.proofs.Sizes.{short}
+use Rattle.condition_reader.specs.Answers.{Answered}
+use Rattle.condition_reader.specs.declared.Part.{Part}
 use Rattle.condition_reader.proofs.Bounds.{Small, expression-lean, condition-lean, small-part}
+use Rattle.reader.specs.Answers.{commands}
 
 lean : (c : Command) → depth c ≤ records c
 unfolding depth records

@@ -15,9 +15,9 @@ use Rattle.text.specs.Reading.{Refusal, refusal, command, whole, read-text}
 use Rattle.text.specs.Sizes.{records, depth, names, how-many, cells}
 use Rattle.text.specs.Calls.{read-call}
 use Rattle.condition_reader.specs.Answers.{Marked, Answered}
-use Rattle.reader.specs.Answers.{commands, marked}
 use Rattle.condition_reader.specs.declared.Part.{Part}
 use Rattle.condition_reader.specs.declared.Part.the-variants.{Read, Refused}
+use Rattle.reader.specs.Answers.{commands, marked}
 
 -- ---- How many are named
 

@@ -11,25 +11,25 @@ use lib.IntN.{pos, negsuc}
 use lib.ListN.{getD}
 use mir.Syntax.{w32}
 use mir.Facts.{toZ-pos}
-use Rattle.word.proofs.Laws.{read-back}
 use Rattle.base.specs.Acts.{ok}
+use Rattle.word.proofs.Laws.{read-back}
 use Rattle.text.specs.Syntax.{IF_THEN_ELSE_, WHILE_DO_}
 use Rattle.text.specs.Reading.{condition, command}
+use Rattle.text.proofs.Opened as text-says
 use Rattle.record.specs.Records.{Record}
 use Rattle.record.specs.Bytes.{assembly-kind, first-byte, operand}
 use Rattle.record.specs.declared.Variable.{Variable}
-use Rattle.buffer.proofs.Written.{Written, kept, none, one, back}
 use Rattle.compile.specs.Compilation.{ccomp}
-use Rattle.text.proofs.Opened as text-says
+use Rattle.buffer.proofs.Written.{Written, kept, none, one, back}
+use Rattle.buffer.proofs.put_record.Reads as put-record
 use Rattle.condition_writer.proofs.Leaves.{leaf}
 use Rattle.condition_writer.proofs.Rows as rows
 use Rattle.condition_writer.proofs.Rows.{Row, row}
 use Rattle.condition_writer.proofs.Fronts as fronts
-use Rattle.assembler.proofs.Guards as guards
-use Rattle.assembler.proofs.Guards.{Guard, jump-back, jump-over}
-use Rattle.buffer.proofs.put_record.Reads as put-record
 use Rattle.condition_writer.proofs.condition_size.Reads as condition-size
 use Rattle.condition_writer.proofs.write_condition.Reads as write-condition
+use Rattle.assembler.proofs.Guards as guards
+use Rattle.assembler.proofs.Guards.{Guard, jump-back, jump-over}
 use Rattle.assembler.proofs.back_over.Reads as back-over
 use Rattle.assembler.proofs.write_assignment.Reads as write-assignment
 use Rattle.assembler.proofs.write_command.Reads as write-command

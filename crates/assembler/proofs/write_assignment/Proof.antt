@@ -9,11 +9,11 @@ use mir.Syntax.{w32}
 use mir.Facts.{toZ-pos}
 use Rattle.text.specs.Syntax.{_:=_}
 use Rattle.text.specs.Reading.{expression}
+use Rattle.text.proofs.Opened as text-says
 use Rattle.record.specs.Records.{STORE, variable}
 use Rattle.record.specs.Bytes.{assembly-kind, first-byte, operand}
-use Rattle.buffer.proofs.Written.{Written, one}
 use Rattle.compile.specs.Compilation.{acomp, ccomp}
-use Rattle.text.proofs.Opened as text-says
+use Rattle.buffer.proofs.Written.{Written, one}
 use Rattle.condition_writer.proofs.Rows as rows
 use Rattle.condition_writer.proofs.Rows.{Led}
 use Rattle.assembler.proofs.write_assignment.Statement.{statement}

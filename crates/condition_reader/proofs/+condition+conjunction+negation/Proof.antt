@@ -15,9 +15,9 @@ use Rattle.text.specs.Reading.{decline, operand, condition-of}
 use Rattle.text.specs.Reading.{condition as reading}
 use Rattle.text.specs.Sizes.{condition-records, condition-depth, condition-names}
 use Rattle.text.specs.Encoding.{Bytes}
-use Rattle.condition_reader.specs.Answers.{conditions, values}
 use Rattle.text.proofs.Heads as heads
 use Rattle.text.proofs.Heads.{is-truth, is-negation, is-conjunction, is-comparison, is-no-condition}
+use Rattle.condition_reader.specs.Answers.{conditions, values}
 use Rattle.condition_reader.proofs.Parts.{next-given, after, Alike, declines, one, first-ends, two}
 use Rattle.condition_reader.proofs.Bounds.{room, condition-small}
 use Rattle.condition_reader.proofs.condition.Reads as condition

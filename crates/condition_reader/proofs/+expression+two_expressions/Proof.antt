@@ -15,9 +15,9 @@ use Rattle.text.specs.Reading.{expression as reading}
 use Rattle.text.specs.Sizes.{expression-records, expression-depth, expression-names}
 use Rattle.text.specs.Sizes.{condition-records, condition-depth, condition-names}
 use Rattle.text.specs.Encoding.{Bytes}
-use Rattle.condition_reader.specs.Answers.{expressions, conditions, numbers, variables}
 use Rattle.text.proofs.Heads as heads
 use Rattle.text.proofs.Heads.{is-constant, is-variable, is-plus, is-no-expression}
+use Rattle.condition_reader.specs.Answers.{expressions, conditions, numbers, variables}
 use Rattle.condition_reader.proofs.Parts.{next-given, after, Alike, declines, one, first-ends, two}
 use Rattle.condition_reader.proofs.Bounds.{room, expression-small}
 use Rattle.condition_reader.proofs.expression.Reads as expression

@@ -12,9 +12,9 @@ use Rattle.word.specs.Numbers.{number-at}
 use Rattle.text.specs.Syntax.{Expression, Constant, Variable, Plus}
 use Rattle.text.specs.Reading.{plus, pass, expression-of, expression}
 use Rattle.text.specs.Sizes.{expression-records}
-use Rattle.condition_reader.specs.Answers.{expression-parts}
 use Rattle.text.proofs.Heads as heads
 use Rattle.text.proofs.Opened as text-says
+use Rattle.condition_reader.specs.Answers.{expression-parts}
 use Rattle.condition_writer.proofs.Leaves.{Leaf, leaf}
 use Rattle.condition_writer.proofs.Counting.{told, Pair, pair, first-countable, second-countable, Both, both}
 use Rattle.condition_writer.proofs.expression_size.Reads as expression-size

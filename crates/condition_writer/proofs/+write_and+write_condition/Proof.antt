@@ -17,17 +17,17 @@ use mir.Facts.{toZ-pos}
 use Rattle.base.specs.Acts.{if_then_else_}
 use Rattle.text.specs.Syntax.{Condition, Bc, Not}
 use Rattle.text.specs.Reading.{condition}
+use Rattle.text.proofs.Opened as text-says
 use Rattle.record.specs.Records.{AssemblyCode, JMP}
 use Rattle.record.specs.Bytes.{assembly-kind, first-byte, operand}
-use Rattle.buffer.proofs.Written.{Written, kept, one, back}
 use Rattle.compile.specs.Compilation.{bcomp}
+use Rattle.buffer.proofs.Written.{Written, kept, one, back}
+use Rattle.buffer.proofs.put_record.Reads as put-record
 use Rattle.condition_writer.specs.Parts.{jumping}
-use Rattle.text.proofs.Opened as text-says
 use Rattle.condition_writer.proofs.Leaves.{Leaf, leaf}
 use Rattle.condition_writer.proofs.Rows as rows
 use Rattle.condition_writer.proofs.Fronts as fronts
 use Rattle.condition_writer.proofs.Fronts.{Front, Sides}
-use Rattle.buffer.proofs.put_record.Reads as put-record
 use Rattle.condition_writer.proofs.value_size.Reads as value-size
 use Rattle.condition_writer.proofs.condition_size.Reads as condition-size
 use Rattle.condition_writer.proofs.reach.Reads as reach

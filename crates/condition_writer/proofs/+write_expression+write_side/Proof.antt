@@ -12,11 +12,11 @@ use Rattle.text.specs.Reading.{expression}
 use Rattle.text.proofs.Opened as text-says
 use Rattle.record.specs.Records.{ADD}
 use Rattle.record.specs.Bytes.{assembly-kind, first-byte, operand}
-use Rattle.buffer.proofs.Written.{Written, kept, one}
 use Rattle.compile.specs.Compilation.{acomp}
+use Rattle.buffer.proofs.Written.{Written, kept, one}
+use Rattle.buffer.proofs.put_record.Reads as put-record
 use Rattle.condition_writer.proofs.Rows as rows
 use Rattle.condition_writer.proofs.Rows.{Row, row}
-use Rattle.buffer.proofs.put_record.Reads as put-record
 use Rattle.condition_writer.proofs.write_leaf.Reads as write-leaf
 use Rattle.condition_writer.proofs.write_expression.Reads as write-expression
 use Rattle.condition_writer.proofs.write_expression.Kinds as kinds

@@ -7,14 +7,14 @@ use native.Mathlib.Omega.{arith}
 use lib.ListN.{getD}
 use mir.Syntax.{w32}
 use mir.Facts.{toZ-pos}
-use Rattle.word.proofs.Laws.{read-back}
 use Rattle.word.specs.Numbers.{number-at}
+use Rattle.word.proofs.Laws.{read-back}
 use Rattle.text.specs.Syntax.{Constant, Variable}
 use Rattle.text.proofs.Opened as text-says
 use Rattle.record.specs.Records.{LOADI, LOAD, variable}
 use Rattle.record.specs.Bytes.{first-byte, operand}
-use Rattle.buffer.proofs.Written.{one}
 use Rattle.compile.specs.Compilation.{acomp}
+use Rattle.buffer.proofs.Written.{one}
 use Rattle.condition_writer.proofs.Leaves.{Leaf, leaf}
 use Rattle.condition_writer.proofs.Rows as rows
 use Rattle.condition_writer.proofs.write_leaf.Statement.{statement}

@@ -10,13 +10,13 @@ use mir.Syntax.{w32}
 use mir.Facts.{toZ-pos}
 use Rattle.base.specs.Acts.{if_then_else_}
 use Rattle.text.specs.Reading.{expression}
+use Rattle.text.proofs.Opened as text-says
 use Rattle.record.specs.Records.{Record, JMPLESS, JMPGE}
 use Rattle.record.specs.Bytes.{assembly-kind, first-byte, operand}
 use Rattle.record.specs.declared.Variable.{Variable}
-use Rattle.buffer.proofs.Written.{Written, one}
 use Rattle.compile.specs.Compilation.{acomp, bcomp}
+use Rattle.buffer.proofs.Written.{Written, one}
 use Rattle.condition_writer.specs.Parts.{jumping}
-use Rattle.text.proofs.Opened as text-says
 use Rattle.condition_writer.proofs.Rows as rows
 use Rattle.condition_writer.proofs.Rows.{Row, row}
 use Rattle.condition_writer.proofs.write_less.Statement.{statement}

@@ -16,14 +16,16 @@ use Rattle.text.specs.Reading.{decline, pass, command-of}
 use Rattle.text.specs.Reading.{condition as condition-reading, command as reading}
 use Rattle.text.specs.Sizes.{records, depth, names}
 use Rattle.text.specs.Encoding.{Bytes}
-use Rattle.condition_reader.specs.Answers.{conditions, Answered}
-use Rattle.reader.specs.Answers.{commands}
-use Rattle.condition_reader.specs.declared.Part.the-variants.{Read}
 use Rattle.text.proofs.Heads as heads
 use Rattle.text.proofs.Heads.{is-skip, is-assignment, is-sequence, is-choice, is-loop, is-no-command}
+use Rattle.condition_reader.specs.Answers.{conditions, Answered}
+use Rattle.condition_reader.specs.declared.Part.the-variants.{Read}
 use Rattle.condition_reader.proofs.Parts.{marked-none, declines, tells, next-given, after, Alike}
 use Rattle.condition_reader.proofs.Parts.{two, three, first-ends, second-ends}
 use Rattle.condition_reader.proofs.Bounds.{room, small-together, condition-small}
+use Rattle.condition_reader.proofs.condition.Reads as condition-reads
+use Rattle.condition_reader.proofs.joined.Reads as joined-reads
+use Rattle.reader.specs.Answers.{commands}
 use Rattle.reader.proofs.Bounds.{command-small}
 use Rattle.reader.proofs.choice.Reads as choice
 use Rattle.reader.proofs.choice.Kinds as choice-kinds
@@ -38,8 +40,6 @@ use Rattle.reader.proofs.sequence.Reads as sequence
 use Rattle.reader.proofs.sequence.Kinds as sequence-kinds
 use Rattle.reader.proofs.+choice+command+repetition+sequence.Lts-sequence as sequence-lts
 use Rattle.reader.proofs.assignment.Reads as assignment-reads
-use Rattle.condition_reader.proofs.condition.Reads as condition-reads
-use Rattle.condition_reader.proofs.joined.Reads as joined-reads
 use Rattle.reader.proofs.+choice+command+repetition+sequence.{statement}
 use Rattle.reader.proofs.+choice+command+repetition+sequence.Tie.{close}
 

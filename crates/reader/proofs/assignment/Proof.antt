@@ -11,9 +11,9 @@ use Rattle.text.specs.Reading.{command-of, operand, expression}
 use Rattle.text.specs.Sizes.{records, expression-depth, depth, names}
 use Rattle.text.specs.Encoding.{Bytes}
 use Rattle.condition_reader.specs.Answers.{variables, expressions}
-use Rattle.reader.specs.Answers.{commands}
 use Rattle.condition_reader.proofs.Parts.{next-given, after, Alike, first-ends, two}
 use Rattle.condition_reader.proofs.Bounds.{room, variable-small, expression-small}
+use Rattle.reader.specs.Answers.{commands}
 use Rattle.reader.proofs.assignment.Statement.{statement}
 use Rattle.reader.proofs.assignment.Tie as tie
 

@@ -2,9 +2,9 @@
 -- In the answers r is the place after the command's call, x where it was found to be read or refused.
 use mathlib.Core.Path.{refl, sym}
 use borrow.Author.Needs.{needs}
-use Rattle.reader.specs.Answers.{commands}
-use Rattle.condition_reader.proofs.Parts.{as-many}
 use Rattle.text.proofs.Ranges.{too-long}
+use Rattle.condition_reader.proofs.Parts.{as-many}
+use Rattle.reader.specs.Answers.{commands}
 use Rattle.reader.proofs.Whole.{call-refused, call-left-over, call-accepted}
 use Rattle.reader.proofs.read.Statement.{statement}
 use Rattle.reader.proofs.read.Tie as tie
