@@ -30,7 +30,7 @@ use Rattle.compile.proofs.Codes as Compiled
 use Rattle.fitting.specs.Calls.{Lent, fit}
 use Rattle.fitting.specs.Demand3.{Ready, RowFitted}
 use Rattle.fitting.proofs.Demand3.{fitted, rows-fitted}
-use Rattle.pod.specs.Rows.{row}
+use Rattle.fitter.specs.Rows.{row}
 use Rattle.printer.specs.Printing.{first-line, record-lines, run-lines, refusal-line, answer-lines, shown}
 use Rattle.listing.specs.Lines.{Codes}
 use Rattle.renderer.specs.Lines.{lines, SomeCodes}

@@ -75,7 +75,7 @@ fn render_accepted(text: &[u8], out: &mut [u8], records: usize, depth: usize, ce
     let mut store = [0i32; 64];
     assembler::assemble(text, &mut assembly);
     let size = depth + 1 + cells;
-    match pod::fit(
+    match fitter::fit(
         text,
         &mut machine,
         &mut table,

@@ -7,7 +7,7 @@ use borrow.Author.Needs.{needs}
 use Rattle.text.specs.Answers.{answer}
 use Rattle.text.specs.Sizes.{sized}
 use Rattle.compile.specs.Calls.{Compiled}
-use Rattle.pod.proofs.Rows.{compile-room}
+use Rattle.fitter.proofs.Rows.{compile-room}
 use Rattle.pairs.proofs.Pairs.{compile-refused, compile-given, same-assembly}
 use Rattle.pairs.proofs.compile_and_go_back.Statement.{statement}
 use Rattle.pairs.proofs.compile_and_go_back.Tie as tie

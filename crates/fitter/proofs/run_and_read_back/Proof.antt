@@ -8,9 +8,9 @@ use lib.ListN.{length-take}
 use Rattle.base.specs.Runs.{run-answer}
 use Rattle.text.specs.Sizes.{sized}
 use Rattle.table.specs.Counts.{answer}
-use Rattle.pod.proofs.Rows.{run-refused, reading-refused, read-back-given}
-use Rattle.pod.proofs.run_and_read_back.Statement.{statement}
-use Rattle.pod.proofs.run_and_read_back.Tie as tie
+use Rattle.fitter.proofs.Rows.{run-refused, reading-refused, read-back-given}
+use Rattle.fitter.proofs.run_and_read_back.Statement.{statement}
+use Rattle.fitter.proofs.run_and_read_back.Tie as tie
 
 returns : tie.Need-returns
 returns c =

@@ -4,9 +4,9 @@ use mathlib.Core.Path.{ap}
 use borrow.Author.Needs.{needs}
 use Rattle.text.specs.Sizes.{sized}
 use Rattle.table.specs.Counts.{answer}
-use Rattle.pod.proofs.Rows.{load-refused, load-given}
-use Rattle.pod.proofs.load_and_run.Statement.{statement}
-use Rattle.pod.proofs.load_and_run.Tie as tie
+use Rattle.fitter.proofs.Rows.{load-refused, load-given}
+use Rattle.fitter.proofs.load_and_run.Statement.{statement}
+use Rattle.fitter.proofs.load_and_run.Tie as tie
 
 returns : tie.Need-returns
 returns c =

@@ -28,7 +28,7 @@ use Rattle.fitting.specs.Calls.{load, read-back-call, Lent, after-reading, afte
 use Rattle.fitting.specs.Calls.{after-compiling, fit}
 use Rattle.fitting.specs.Demand3.{Ready}
 use Rattle.fitting.proofs.Demand3.{rows-fitted}
-use Rattle.pod.specs.Rows.{row}
+use Rattle.fitter.specs.Rows.{row}
 
 -- ---- what compiling gave
 

@@ -5,10 +5,10 @@ use native.Mathlib.Omega.{arith}
 use borrow.Author.Needs.{needs}
 use Rattle.text.specs.Sizes.{sized}
 use Rattle.text.specs.Answers.{answer}
-use Rattle.pod.specs.Rows.{row}
-use Rattle.pod.proofs.Rows.{compile-refused, compile-given, compile-room, demanded}
-use Rattle.pod.proofs.fit.Statement.{statement}
-use Rattle.pod.proofs.fit.Tie as tie
+use Rattle.fitter.specs.Rows.{row}
+use Rattle.fitter.proofs.Rows.{compile-refused, compile-given, compile-room, demanded}
+use Rattle.fitter.proofs.fit.Statement.{statement}
+use Rattle.fitter.proofs.fit.Tie as tie
 
 load-and-run-requires : tie.Need-load-and-run-requires
 load-and-run-requires c κs =
