@@ -24,7 +24,7 @@ use Rattle.source.proofs.Calls.{source-runs}
 use Rattle.source.proofs.Ticks.{Low, low-exec}
 use Rattle.evaluator.specs.Placed.{Read, _upto_, placed}
 use Rattle.evaluator.proofs.Steps.{was-read, gave, stopped}
-use Rattle.interpreter.proofs.Commands.{doing}
+use Rattle.command_executor.proofs.Commands.{doing}
 
 module _ (text : List ℕ) (store : Store) (budget : ℕ) where
   pub declines : {k p : ℕ} → read-text text ≡ refused k p → run-source text store budget ≡ (refused k p, store)

@@ -12,9 +12,10 @@ use Rattle.evaluator.specs.Placed.{placed, _upto_}
 use Rattle.evaluator.specs.Answers.{early}
 use Rattle.evaluator.specs.declared.Early.{Early}
 use Rattle.evaluator.specs.declared.Early.the-variants.{Spent, OutOfRange}
-use Rattle.interpreter.specs.Answers.{went}
-use Rattle.interpreter.proofs.Commands.{doing}
-use Rattle.interpreter.proofs.Whole.{declines, wrong-length, whole-read, done-left, done-is, ended-left, ended-is}
+use Rattle.command_executor.specs.Answers.{went}
+use Rattle.command_executor.proofs.Commands.{doing}
+use Rattle.interpreter.proofs.Whole.{declines, wrong-length, whole-read}
+use Rattle.interpreter.proofs.Whole.{done-left, done-is, ended-left, ended-is}
 use Rattle.interpreter.proofs.run_source.Statement.{statement}
 use Rattle.interpreter.proofs.run_source.Tie as tie
 

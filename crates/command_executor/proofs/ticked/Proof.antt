@@ -4,8 +4,8 @@ use borrow.Author.Needs.{needs}
 use Rattle.base.specs.Acts.{then′, give}
 use Rattle.evaluator.specs.Placed.{reaching}
 use Rattle.evaluator.proofs.Steps.{tick-none, tick-one}
-use Rattle.interpreter.proofs.ticked.Statement.{statement}
-use Rattle.interpreter.proofs.ticked.Tie as tie
+use Rattle.command_executor.proofs.ticked.Statement.{statement}
+use Rattle.command_executor.proofs.ticked.Tie as tie
 
 returns : tie.Need-returns
 unfolding then′ give

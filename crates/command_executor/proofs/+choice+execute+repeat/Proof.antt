@@ -1,6 +1,6 @@
 -- The cycle of calls {choice, execute, repeat}: the nesting left falls from a command to its parts; in `execute` it
 -- falls with each turn of the loop too, and in `repeat` the ticks left bound the loop. Each answer is a law of its
--- construct (Compound) or of a loop (Loops).
+-- construct (Commands) or of a loop (Loops).
 use Prim.Native.Nat.{ℕ, _<_, _+_, _-_, _*_}
 use mathlib.Core.Path.{_≡_, refl, sym, ap, _∙_}
 use mathlib.Core.Bool.{false}
@@ -21,24 +21,24 @@ use Rattle.evaluator.proofs.Steps.{was-read}
 use Rattle.evaluator.proofs.Compound.{under}
 use Rattle.evaluator.proofs.part_end.Reads as part-end-reads
 use Rattle.evaluator.proofs.test.Reads as test-reads
-use Rattle.interpreter.specs.Answers.{went}
-use Rattle.interpreter.proofs.Commands.{doing, skip-is, sequence-ended, choice-ended, first-at, first-stops}
-use Rattle.interpreter.proofs.Commands.{other-at, first-done, else-at, else-is, while-ended, body-at, while-done}
-use Rattle.interpreter.proofs.Commands.{body-stops, turn-spent, turn-again}
-use Rattle.interpreter.proofs.Loops.{Going, begins, second-next, Turning, no-higher, not-true, not-false}
-use Rattle.interpreter.proofs.choice.Reads as choice
-use Rattle.interpreter.proofs.choice.Kinds as choice-kinds
-use Rattle.interpreter.proofs.+choice+execute+repeat.Lts-choice as choice-lts
-use Rattle.interpreter.proofs.execute.Reads as execute
-use Rattle.interpreter.proofs.execute.Kinds as execute-kinds
-use Rattle.interpreter.proofs.+choice+execute+repeat.Lts-execute as execute-lts
-use Rattle.interpreter.proofs.repeat.Reads as repeat
-use Rattle.interpreter.proofs.repeat.Kinds as repeat-kinds
-use Rattle.interpreter.proofs.+choice+execute+repeat.Lts-repeat as repeat-lts
-use Rattle.interpreter.proofs.assignment.Reads as assignment-reads
-use Rattle.interpreter.proofs.ticked.Reads as ticked-reads
-use Rattle.interpreter.proofs.+choice+execute+repeat.{statement}
-use Rattle.interpreter.proofs.+choice+execute+repeat.Tie.{close}
+use Rattle.command_executor.specs.Answers.{went}
+use Rattle.command_executor.proofs.Commands.{doing, skip-is, sequence-ended, choice-ended, first-at, first-stops}
+use Rattle.command_executor.proofs.Commands.{other-at, first-done, else-at, else-is, while-ended, body-at}
+use Rattle.command_executor.proofs.Commands.{while-done, body-stops, turn-spent, turn-again}
+use Rattle.command_executor.proofs.Loops.{Going, begins, second-next, Turning, no-higher, not-true, not-false}
+use Rattle.command_executor.proofs.choice.Reads as choice
+use Rattle.command_executor.proofs.choice.Kinds as choice-kinds
+use Rattle.command_executor.proofs.+choice+execute+repeat.Lts-choice as choice-lts
+use Rattle.command_executor.proofs.execute.Reads as execute
+use Rattle.command_executor.proofs.execute.Kinds as execute-kinds
+use Rattle.command_executor.proofs.+choice+execute+repeat.Lts-execute as execute-lts
+use Rattle.command_executor.proofs.repeat.Reads as repeat
+use Rattle.command_executor.proofs.repeat.Kinds as repeat-kinds
+use Rattle.command_executor.proofs.+choice+execute+repeat.Lts-repeat as repeat-lts
+use Rattle.command_executor.proofs.assignment.Reads as assignment-reads
+use Rattle.command_executor.proofs.ticked.Reads as ticked-reads
+use Rattle.command_executor.proofs.+choice+execute+repeat.{statement}
+use Rattle.command_executor.proofs.+choice+execute+repeat.Tie.{close}
 
 -- twice the nesting left, and one more for a command of any kind
 abbrev μ-choice : Measures 2 choice-kinds.ps ℕ

@@ -17,7 +17,7 @@ use Rattle.source.proofs.Ticks.{Low, low-truth, low-exec}
 use Rattle.evaluator.specs.Placed.{Read, _upto_, placed}
 use Rattle.evaluator.proofs.Steps.{gave}
 use Rattle.evaluator.proofs.Compound.{under}
-use Rattle.interpreter.proofs.Commands.{doing, sequence-read, sequence-ok, body-at}
+use Rattle.command_executor.proofs.Commands.{doing, sequence-read, sequence-ok, body-at}
 
 pub not-true : (v : Bool) → not v ≡ true → v ≡ false
 not-true true e = sym e

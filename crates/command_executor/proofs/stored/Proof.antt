@@ -9,8 +9,8 @@ use Rattle.base.specs.Acts.{ok, then′, give}
 use Rattle.source.specs.Rules.{state, assign}
 use Rattle.evaluator.specs.Placed.{_upto_}
 use Rattle.evaluator.proofs.Steps.{spends, goes}
-use Rattle.interpreter.proofs.stored.Statement.{statement}
-use Rattle.interpreter.proofs.stored.Tie as tie
+use Rattle.command_executor.proofs.stored.Statement.{statement}
+use Rattle.command_executor.proofs.stored.Tie as tie
 
 returns : tie.Need-returns
 returns c = sym (spends _ _ _ _ (c .if1 .taken))

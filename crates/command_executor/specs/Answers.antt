@@ -3,8 +3,8 @@ use Rattle.base.specs.Acts.{ok, ended}
 use Rattle.source.specs.Rules.{Store, Outcomes, state}
 use Rattle.evaluator.specs.Placed.{Reached, _upto_}
 use Rattle.evaluator.specs.Answers.{early}
-use Rattle.interpreter.specs.declared.Progress.{Progress}
-use Rattle.interpreter.specs.declared.Progress.the-variants.{On, Ended}
+use Rattle.command_executor.specs.declared.Progress.{Progress}
+use Rattle.command_executor.specs.declared.Progress.the-variants.{On, Ended}
 
 abbrev pub went : Progress → Store → Outcomes (Reached (Unit {0}))
 went (On next left) store = ok (tt upto next) (state left store)

@@ -1,4 +1,4 @@
--- `assignment` meets its contract: the expression, then one tick to store (Compound).
+-- `assignment` meets its contract: the expression, then one tick to store (Commands).
 use Prim.Native.Nat.{_+_, _-_, _<_, _≤_}
 use mathlib.Core.Path.{sym, ap, _∙_}
 use native.Mathlib.Omega.{arith}
@@ -13,9 +13,9 @@ use Rattle.source.specs.Rules.{state}
 use Rattle.evaluator.specs.Placed.{reaching}
 use Rattle.evaluator.specs.Answers.{valued}
 use Rattle.evaluator.proofs.Steps.{was-read}
-use Rattle.interpreter.proofs.Commands.{storing, assign-ended, assign-ok}
-use Rattle.interpreter.proofs.assignment.Statement.{statement}
-use Rattle.interpreter.proofs.assignment.Tie as tie
+use Rattle.command_executor.proofs.Commands.{storing, assign-ended, assign-ok}
+use Rattle.command_executor.proofs.assignment.Statement.{statement}
+use Rattle.command_executor.proofs.assignment.Tie as tie
 
 -- its variable's byte and its expression
 parts : (c : tie.Start) → let a = c .args in let v = getD (a .text .now) (a .at + 1) 0 in
