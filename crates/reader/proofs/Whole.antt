@@ -17,7 +17,8 @@ use Rattle.text.specs.Calls.{read-call}
 use Rattle.condition_reader.specs.Answers.{Marked, Answered}
 use Rattle.condition_reader.specs.declared.Part.{Part}
 use Rattle.condition_reader.specs.declared.Part.the-variants.{Read, Refused}
-use Rattle.reader.specs.Answers.{commands, marked}
+use Rattle.command_reader.specs.Answers.{commands}
+use Rattle.reader.specs.Answers.{marked}
 
 -- ---- How many are named
 

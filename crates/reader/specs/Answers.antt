@@ -1,21 +1,10 @@
--- What an answer of the code says of a command, and which variables are marked.
+-- Which variables are marked, as the code counts them.
 use Prim.Native.Nat.{ℕ}
 use mathlib.Core.Bool.{Bool}
 use mathlib.Core.List.{List}
 use lib.Dec.{eqb}
 use lib.ListN.{getD}
-use Rattle.text.specs.Syntax.{Command}
-use Rattle.text.specs.Reading.{Reader, CommandByte, expression, condition, command-of, command}
-use Rattle.text.specs.Sizes.{records, depth, names}
-use Rattle.condition_reader.specs.Answers.{Sized}
-
-abbrev pub commands : Sized Command
-commands = record { records = records; depth = depth; names = names }
 
 -- Whether a variable is marked
 abbrev pub marked : List ℕ → ℕ → Bool
 marked marks w = eqb (getD marks w 0) 1
-
--- A command whose first byte is known, with the nesting left for its parts
-abbrev pub command-parts : List ℕ → ℕ → CommandByte → Reader Command
-command-parts text left = command-of text (expression text left) (condition text left) (command text left)

@@ -4,7 +4,7 @@ use mathlib.Core.Path.{refl, sym}
 use borrow.Author.Needs.{needs}
 use Rattle.text.proofs.Ranges.{too-long}
 use Rattle.condition_reader.proofs.Parts.{as-many}
-use Rattle.reader.specs.Answers.{commands}
+use Rattle.command_reader.specs.Answers.{commands}
 use Rattle.reader.proofs.Whole.{call-refused, call-left-over, call-accepted}
 use Rattle.reader.proofs.read.Statement.{statement}
 use Rattle.reader.proofs.read.Tie as tie

@@ -15,7 +15,7 @@ use Rattle.text.proofs.Sizes.{short}
 use Rattle.condition_reader.specs.Answers.{Answered}
 use Rattle.condition_reader.specs.declared.Part.{Part}
 use Rattle.condition_reader.proofs.Bounds.{Small, expression-lean, condition-lean, small-part}
-use Rattle.reader.specs.Answers.{commands}
+use Rattle.command_reader.specs.Answers.{commands}
 
 lean : (c : Command) → depth c ≤ records c
 unfolding depth records

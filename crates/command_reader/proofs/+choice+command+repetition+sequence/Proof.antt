@@ -25,23 +25,23 @@ use Rattle.condition_reader.proofs.Parts.{two, three, first-ends, second-ends}
 use Rattle.condition_reader.proofs.Bounds.{room, small-together, condition-small}
 use Rattle.condition_reader.proofs.condition.Reads as condition-reads
 use Rattle.condition_reader.proofs.joined.Reads as joined-reads
-use Rattle.reader.specs.Answers.{commands}
-use Rattle.reader.proofs.Bounds.{command-small}
-use Rattle.reader.proofs.choice.Reads as choice
-use Rattle.reader.proofs.choice.Kinds as choice-kinds
-use Rattle.reader.proofs.+choice+command+repetition+sequence.Lts-choice as choice-lts
-use Rattle.reader.proofs.command.Reads as command
-use Rattle.reader.proofs.command.Kinds as command-kinds
-use Rattle.reader.proofs.+choice+command+repetition+sequence.Lts-command as command-lts
-use Rattle.reader.proofs.repetition.Reads as repetition
-use Rattle.reader.proofs.repetition.Kinds as repetition-kinds
-use Rattle.reader.proofs.+choice+command+repetition+sequence.Lts-repetition as repetition-lts
-use Rattle.reader.proofs.sequence.Reads as sequence
-use Rattle.reader.proofs.sequence.Kinds as sequence-kinds
-use Rattle.reader.proofs.+choice+command+repetition+sequence.Lts-sequence as sequence-lts
-use Rattle.reader.proofs.assignment.Reads as assignment-reads
-use Rattle.reader.proofs.+choice+command+repetition+sequence.{statement}
-use Rattle.reader.proofs.+choice+command+repetition+sequence.Tie.{close}
+use Rattle.command_reader.specs.Answers.{commands}
+use Rattle.command_reader.proofs.Bounds.{command-small}
+use Rattle.command_reader.proofs.choice.Reads as choice
+use Rattle.command_reader.proofs.choice.Kinds as choice-kinds
+use Rattle.command_reader.proofs.+choice+command+repetition+sequence.Lts-choice as choice-lts
+use Rattle.command_reader.proofs.command.Reads as command
+use Rattle.command_reader.proofs.command.Kinds as command-kinds
+use Rattle.command_reader.proofs.+choice+command+repetition+sequence.Lts-command as command-lts
+use Rattle.command_reader.proofs.repetition.Reads as repetition
+use Rattle.command_reader.proofs.repetition.Kinds as repetition-kinds
+use Rattle.command_reader.proofs.+choice+command+repetition+sequence.Lts-repetition as repetition-lts
+use Rattle.command_reader.proofs.sequence.Reads as sequence
+use Rattle.command_reader.proofs.sequence.Kinds as sequence-kinds
+use Rattle.command_reader.proofs.+choice+command+repetition+sequence.Lts-sequence as sequence-lts
+use Rattle.command_reader.proofs.assignment.Reads as assignment-reads
+use Rattle.command_reader.proofs.+choice+command+repetition+sequence.{statement}
+use Rattle.command_reader.proofs.+choice+command+repetition+sequence.Tie.{close}
 
 -- ---- Sizes
 

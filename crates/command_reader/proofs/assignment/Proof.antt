@@ -13,9 +13,9 @@ use Rattle.text.specs.Encoding.{Bytes}
 use Rattle.condition_reader.specs.Answers.{variables, expressions}
 use Rattle.condition_reader.proofs.Parts.{next-given, after, Alike, first-ends, two}
 use Rattle.condition_reader.proofs.Bounds.{room, variable-small, expression-small}
-use Rattle.reader.specs.Answers.{commands}
-use Rattle.reader.proofs.assignment.Statement.{statement}
-use Rattle.reader.proofs.assignment.Tie as tie
+use Rattle.command_reader.specs.Answers.{commands}
+use Rattle.command_reader.proofs.assignment.Statement.{statement}
+use Rattle.command_reader.proofs.assignment.Tie as tie
 
 some-depth : (a : Expression) → 1 ≤ expression-depth a
 unfolding expression-depth
