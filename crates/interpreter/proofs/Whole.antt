@@ -1,23 +1,17 @@
 -- The call `run_source`: its refusals, and an accepted text's run, from what its command came to at the text's start.
-use mathlib.Core.Path.{_≡_, refl, ap, subst, _∙_}
+use mathlib.Core.Path.{_≡_, ap, subst, _∙_}
 use Prim.Native.Nat.{ℕ, _-_, _≤_}
 use native.Mathlib.Nat.{le-refl}
-use native.Mathlib.Omega.{arith}
-use mathlib.Core.Bool.{Bool, true, false}
 use mathlib.Core.List.{List}
-use lib.Dec.{eqb}
 use lib.ListN.{length}
-use borrow.Author.Tests.{ne-eqb, eqb-true, eqb-false}
+use borrow.Author.Tests.{ne-eqb}
 use Rattle.base.specs.Acts.{ok, ended}
-use Rattle.base.specs.Answers.{Answer, gives, refused, and-then, settle}
+use Rattle.base.specs.Answers.{gives, refused, and-then, settle}
 use Rattle.base.specs.Ends.{done, report}
 use Rattle.word.specs.Sums.{sum32}
 use Rattle.text.specs.Syntax.{Command}
 use Rattle.text.specs.Reading.{command, read-text}
-use Rattle.text.specs.Encoding.{Bytes}
-use Rattle.text.specs.Calls.{read-call}
 use Rattle.text.proofs.Opened.{taken}
-use Rattle.text.proofs.Ranges.{in-range}
 use Rattle.source.specs.Rules.{Early, State, Store, state, Outcomes, end-of, result-of}
 use Rattle.source.specs.Calls.{source-tests, run-source}
 use Rattle.source.proofs.Calls.{source-runs}
@@ -69,31 +63,3 @@ module _ (text : List ℕ) (store : Store) (budget : ℕ) where
             ≡ (gives (record { end = end-of k; count = budget - s .left }), s .store)
         unfolding result-of
         ended-is = runs _ (stopped doing _ (taken text e .part) p)
-
--- ---- The places of refusals are small
-
-place-of : {A B : Type 0} {k p k′ p′ : ℕ} {s s′ : B}
-    → _≡_ {A = Answer A × B} (refused k p, s) (refused k′ p′, s′) → p ≡ p′
-place-of e = let first = ap (λ x. x .0) e in cc
-
-no-answer : {A B : Type 0} {k p : ℕ} {a : A} {s s′ : B} → _≡_ {A = Answer A × B} (refused k p, s) (gives a, s′) → ⊥
-no-answer e = let first = ap (λ x. x .0) e in let no : _≡_ {A = ℕ} 0 1 = cc in omega arith
-
-refusal-range : (text : List ℕ) → Bytes text → {k p : ℕ} → read-text text ≡ refused k p → (k ≤ 6) × (p ≤ 4096)
-unfolding read-call and-then
-refusal-range text small e = rw e at (in-range text small)
-
-pub small-place : (text : List ℕ) → Bytes text → (store : Store) (budget : ℕ) {k p : ℕ} {s : Store}
-    → (refused k p, s) ≡ run-source text store budget → p ≤ 4096
-small-place text small store budget {k} {p} {s} e = by (read-text text) refl (eqb (length store) 64) refl
-  where
-    by : (a : Answer Command) → read-text text ≡ a → (t : Bool) → eqb (length store) 64 ≡ t → p ≤ 4096
-    by (refused k′ p′) r t h =
-        let in-text : (k′ ≤ 6) × (p′ ≤ 4096) = refusal-range text small r in
-        let same : p ≡ p′ = place-of (e ∙ declines text store budget r) in
-        omega arith
-    by (gives c) r false h =
-        let same : p ≡ 0 = place-of (e ∙ wrong-length text store budget r (eqb-false (length store) 64 h)) in
-        omega arith
-    by (gives c) r true h =
-        absurd (no-answer (e ∙ source-runs text c store budget r (eqb-true (length store) 64 h)))

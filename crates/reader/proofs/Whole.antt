@@ -18,7 +18,7 @@ use Rattle.condition_reader.specs.Answers.{Marked, Answered}
 use Rattle.condition_reader.specs.declared.Part.{Part}
 use Rattle.condition_reader.specs.declared.Part.the-variants.{Read, Refused}
 use Rattle.command_reader.specs.Answers.{commands}
-use Rattle.reader.specs.Answers.{marked}
+use Rattle.reader.specs.Marks.{marked}
 
 -- ---- How many are named
 

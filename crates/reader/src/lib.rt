@@ -4,7 +4,7 @@ ghost use lib.ListN.{length};
 ghost use Rattle.text.specs.Sizes.{how-many};
 ghost use Rattle.text.specs.Calls.{read-call};
 ghost use Rattle.text.specs.Answers.{answer};
-ghost use Rattle.reader.specs.Answers.{marked};
+ghost use Rattle.reader.specs.Marks.{marked};
 use command_reader::command;
 use condition_reader::Part;
 use text::Reading;

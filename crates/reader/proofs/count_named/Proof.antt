@@ -8,7 +8,7 @@ use native.Mathlib.Omega.{arith}
 use borrow.Author.Tests.{eq-eqb, ne-eqb}
 use lib.ListN.{length, getD}
 use Rattle.text.specs.Sizes.{how-many}
-use Rattle.reader.specs.Answers.{marked}
+use Rattle.reader.specs.Marks.{marked}
 use Rattle.reader.proofs.count_named.Statement.{statement}
 use Rattle.reader.proofs.count_named.Tie as tie
 
