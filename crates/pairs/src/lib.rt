@@ -58,7 +58,7 @@ fn go_back_from(code: &[u8], count: usize, table: &[u8], out: &mut [u8]) -> Coun
         ≡ go-back (take (5 * count) (now (code .entry))) (now (table .entry)) (now (out .entry)) ⌝ }
 {
     let size = 5 * count;
-    translator::go_back(&code[..size], table, out)
+    disassembler::go_back(&code[..size], table, out)
 }
 
 // Compiles a text and goes back from the records and the table written. For an accepted text and buffers with room, the

@@ -71,7 +71,7 @@ pub extern "C" fn profile_go_back(code: &[u8], table: &[u8], out: &mut [u8]) -> 
     ensures { λ r. ⌜ (r, now (out .exit))
         ≡ beside packed-count (go-back (now (code .entry)) (now (table .entry)) (now (out .entry))) ⌝ }
 {
-    match translator::go_back(code, table, out) {
+    match disassembler::go_back(code, table, out) {
         Count::Refused { number, place } => pack_refusal(number, place),
         Count::Gives(n) => pack_count(n),
     }

@@ -1,4 +1,3 @@
-pub mod Finding
 pub mod Renaming
 pub mod Standing
 pub mod Rows
@@ -6,7 +5,4 @@ pub mod Mentions
 pub mod Numbering
 pub mod Numbers
 pub mod Translating
-pub mod Read
-pub mod Tests
-pub mod GoingBack
 pub mod Compiling

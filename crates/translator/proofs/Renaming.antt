@@ -10,13 +10,13 @@ use lib.Dec.{leb}
 use lib.IntN.{pos}
 use lib.ListN.{length, getD}
 use borrow.Author.Tests.{leb-true}
+use Rattle.base.proofs.Settled.{both}
 use Rattle.word.specs.Numbers.{bits-of, bytes-of}
 use Rattle.record.specs.Records.{Record, LOADI, LOAD, ADD, STORE, JMP, JMPLESS, JMPGE, rename}
 use Rattle.record.specs.Bytes.{first-byte, operand, record-bytes}
 use Rattle.record.specs.Claims.{RecordFits}
 use Rattle.record.specs.Answers.{kind-of}
 use Rattle.record.specs.declared.Kind.{Kind}
-use Rattle.base.proofs.Settled.{both}
 use Rattle.translator.specs.Standing.{Renames, Renamable}
 use Rattle.translator.specs.Steps.{has-name, renamed-front}
 

@@ -8,6 +8,7 @@ use native.Mathlib.Omega.{arith}
 use lib.ListN.{length, getD, take, drop, length-map, drop-of-length-le}
 use lib.Seq.{take-all, take-at, drop-at, take-suc, length-take-le}
 use borrow.Rule.Slice.PartMut.{midOf, putMid}
+use Rattle.base.proofs.Rests.{rest-is, back-is}
 use Rattle.record.specs.Records.{Record, ADD, rename}
 use Rattle.record.specs.Bytes.{record-bytes, code-bytes, over}
 use Rattle.record.specs.Answers.{kind-of}
@@ -16,7 +17,6 @@ use Rattle.record.proofs.Bytes.{five-bytes, code-bytes-append}
 use Rattle.translator.specs.Standing.{Stands, Renames, Renamable}
 use Rattle.translator.specs.Steps.{renamed-front}
 use Rattle.translator.proofs.Renaming.{front-renamed, front-renamable}
-use Rattle.base.proofs.Rests.{rest-is, back-is}
 use Rattle.translator.proofs.Standing.{fits-at, bytes-from, stand-all}
 
 module _ (from to : Kind) (names : List ℕ) (P : List (Record ℕ)) (lent : List ℕ) where

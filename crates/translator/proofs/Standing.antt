@@ -1,13 +1,12 @@
--- Records that stand at the start of a buffer: from a record on they stand at the start of the rest, and a rest that is
--- lent comes back behind what stands before it.
+-- Records that stand at the start of a buffer: the record at an index, and from a record on they stand at the start of
+-- the rest.
 use mathlib.Core.Path.{_≡_, sym, ap, _∙_}
-use mathlib.Core.List.{List, [], _∷_, _++_, append-assoc, append-nil}
-use Prim.Native.Nat.{ℕ, zero, suc, _+_, _-_, _*_, _≤_, _<_}
+use mathlib.Core.List.{List, [], _∷_, _++_, append-assoc}
+use Prim.Native.Nat.{ℕ, zero, suc, _+_, _*_, _≤_, _<_}
 use native.Mathlib.Numerals.{add-one}
 use native.Mathlib.Omega.{arith}
-use lib.ListN.{length, getD, take, drop, take-append-drop, length-append, length-drop, drop-of-length-le}
-use lib.Seq.{take-all, drop-at, drop-cons, length-take-le}
-use borrow.Rule.Slice.PartMut.{midOf, putMid}
+use lib.ListN.{length, getD, take, drop, take-append-drop, length-append}
+use lib.Seq.{drop-at, drop-cons, length-take-le}
 use Rattle.record.specs.Records.{Record, ADD}
 use Rattle.record.specs.Bytes.{Kind, record-bytes, code-bytes}
 use Rattle.record.specs.Claims.{RecordFits, CodeFits}

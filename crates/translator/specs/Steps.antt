@@ -1,12 +1,11 @@
--- What the steps of translating and going back do, on bytes and on a table.
-use Prim.Native.Nat.{ℕ, zero, suc, _+_, _-_, _*_}
+-- What the steps of translating do, on bytes and on a table.
+use Prim.Native.Nat.{ℕ, _+_, _-_, _*_}
 use mathlib.Core.Bool.{Bool, _||_}
-use mathlib.Core.List.{List, [], _∷_}
+use mathlib.Core.List.{List}
 use lib.Dec.{eqb}
 use lib.ListN.{getD, set}
 use Rattle.base.specs.Acts.{if_then_else_}
 use Rattle.record.specs.Records.{variable}
-use Rattle.compile.specs.Table.{variable-at}
 use Rattle.translator.specs.declared.Mention.{Mention}
 use Rattle.translator.specs.declared.Mention.the-variants.{Of, Nothing}
 
@@ -29,8 +28,3 @@ mention-at code i =
 -- n variables have addresses in a table; variable v gets the next one, if it has none
 unfoldable pub addressed : ℕ → ℕ → List ℕ → ℕ × List ℕ
 addressed v n t = if eqb (getD t v 0) 0 then (n + 1, set t v (n + 1)) else (n, t)
-
--- the variables of k addresses from a on
-unfoldable pub inverse : List ℕ → ℕ → ℕ → List ℕ
-inverse t a zero = []
-inverse t a (suc k) = variable-at t 0 a ∷ inverse t (suc a) k

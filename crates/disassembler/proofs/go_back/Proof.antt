@@ -4,13 +4,13 @@ use mathlib.Core.Path.{_≡_, sym, ap, _∙_}
 use native.Mathlib.Omega.{arith}
 use borrow.Author.Needs.{needs}
 use Rattle.base.specs.Answers.{gives}
+use Rattle.base.proofs.Settled.{declined}
 use Rattle.compile.specs.Calls as Calls
 use Rattle.table.specs.Counts.{answer}
-use Rattle.base.proofs.Settled.{declined}
-use Rattle.translator.proofs.GoingBack.{Copied, back-renames, back-holds, gone-back}
-use Rattle.translator.proofs.Tests.{tests, tests-refuse, passed}
-use Rattle.translator.proofs.go_back.Statement.{statement}
-use Rattle.translator.proofs.go_back.Tie as tie
+use Rattle.disassembler.proofs.GoingBack.{Copied, back-renames, back-holds, gone-back}
+use Rattle.disassembler.proofs.Tests.{tests, tests-refuse, passed}
+use Rattle.disassembler.proofs.go_back.Statement.{statement}
+use Rattle.disassembler.proofs.go_back.Tie as tie
 
 -- Where the tests have given n
 gave : (c : tie.After-n)

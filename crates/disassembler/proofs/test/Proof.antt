@@ -3,9 +3,9 @@ use mathlib.Core.Path.{sym, _∙_}
 use borrow.Author.Needs.{needs}
 use borrow.Author.Tests.{not-true, not-false}
 use Rattle.table.proofs.Counting.{table-found, none-found}
-use Rattle.translator.proofs.Tests.{Tabled, not-whole, no-bytes, no-table, faulty, no-room, accepts}
-use Rattle.translator.proofs.test.Statement.{statement}
-use Rattle.translator.proofs.test.Tie as tie
+use Rattle.disassembler.proofs.Tests.{Tabled, not-whole, no-bytes, no-table, faulty, no-room, accepts}
+use Rattle.disassembler.proofs.test.Statement.{statement}
+use Rattle.disassembler.proofs.test.Tie as tie
 
 -- Where the table's test has given n
 tabled : (c : tie.After-n)

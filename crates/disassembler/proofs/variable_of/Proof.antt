@@ -6,9 +6,9 @@ use native.Mathlib.Omega.{arith}
 use lib.ListN.{length, drop}
 use borrow.Author.Needs.{needs}
 use Rattle.compile.specs.Table.{variable-at}
-use Rattle.translator.proofs.Finding.{found-here, found-later, found-nowhere}
-use Rattle.translator.proofs.variable_of.Statement.{statement}
-use Rattle.translator.proofs.variable_of.Tie as tie
+use Rattle.disassembler.proofs.Finding.{found-here, found-later, found-nowhere}
+use Rattle.disassembler.proofs.variable_of.Statement.{statement}
+use Rattle.disassembler.proofs.variable_of.Tie as tie
 
 abbrev Inv-loop : tie.InvT-loop
 Inv-loop table address v₀ v =

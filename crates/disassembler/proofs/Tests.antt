@@ -8,6 +8,7 @@ use lib.Dec.{eqb, leb}
 use lib.ListN.{length, getD, drop, drop-of-length-le}
 use borrow.Author.Tests.{eqb-true, leb-true, le-leb, lt-leb, eq-eqb, ne-eqb}
 use Rattle.base.specs.Answers.{Answer, gives, refused, and-then}
+use Rattle.base.proofs.Settled.{unless-passed, needed, both}
 use Rattle.record.specs.Records.{MachineCode}
 use Rattle.record.specs.Bytes.{machine-kind, code-bytes, over, record-count, whole, records-of}
 use Rattle.record.specs.Answers.{kind-of, machine-numbers, Tested}
@@ -16,9 +17,8 @@ use Rattle.record.proofs.Tested.{records-length, records-at}
 use Rattle.record.proofs.Testing.{tested-told, machine-told}
 use Rattle.compile.specs.Calls.{go-back-tests}
 use Rattle.compile.specs.Table.{named-in, is-table}
-use Rattle.base.proofs.Settled.{unless-passed, needed, both}
 use Rattle.translator.specs.Standing.{Stands}
-use Rattle.translator.proofs.Read.{records-stand}
+use Rattle.disassembler.proofs.Read.{records-stand}
 
 -- ---- The answer of each of the code's tests
 

@@ -6,11 +6,11 @@ use native.Mathlib.Omega.{arith}
 use lib.ListN.{length, getD, drop, List·getD-append}
 use lib.Seq.{getD-append-add, getD-drop}
 use borrow.Author.Needs.{needs}
+use Rattle.base.proofs.Sweep.{Swept, swept-start, swept-set, swept-stop}
 use Rattle.record.specs.Bytes.{over}
 use Rattle.record.proofs.Bytes.{length-over}
-use Rattle.base.proofs.Sweep.{Swept, swept-start, swept-set, swept-stop}
-use Rattle.translator.proofs.copy.Statement.{statement}
-use Rattle.translator.proofs.copy.Tie as tie
+use Rattle.disassembler.proofs.copy.Statement.{statement}
+use Rattle.disassembler.proofs.copy.Tie as tie
 
 -- Past the bytes the buffer is as it was.
 after : (new old : List ℕ) (w : ℕ) → length new ≤ w → getD old w 0 ≡ getD (over new old) w 0

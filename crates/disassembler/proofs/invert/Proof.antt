@@ -5,10 +5,10 @@ use native.Mathlib.Omega.{arith}
 use lib.ListN.{length}
 use borrow.Author.Needs.{needs}
 use Rattle.base.proofs.Sweep.{Swept, swept-start, swept-set, swept-end}
-use Rattle.translator.specs.Steps.{inverse}
-use Rattle.translator.proofs.Finding.{length-inverse, inverse-at}
-use Rattle.translator.proofs.invert.Statement.{statement}
-use Rattle.translator.proofs.invert.Tie as tie
+use Rattle.disassembler.specs.Steps.{inverse}
+use Rattle.disassembler.proofs.Finding.{length-inverse, inverse-at}
+use Rattle.disassembler.proofs.invert.Statement.{statement}
+use Rattle.disassembler.proofs.invert.Tie as tie
 
 abbrev Inv-loop : tie.InvT-loop
 Inv-loop table names₀ a₀ names a = Swept 0 names₀ (inverse table 0 (length names₀)) names a

@@ -8,6 +8,7 @@ use lib.Dec.{leb}
 use lib.ListN.{length, getD}
 use borrow.Author.Tests.{leb-true}
 use Rattle.base.specs.Answers.{gives}
+use Rattle.base.proofs.Settled.{both, settled}
 use Rattle.record.specs.Records.{variable}
 use Rattle.record.specs.Bytes.{assembly-kind, machine-kind, over, record-count}
 use Rattle.record.specs.Claims.{NameFits}
@@ -17,12 +18,11 @@ use Rattle.record.specs.declared.Kind.{Kind}
 use Rattle.record.proofs.Testing.{assembly-told, machine-told}
 use Rattle.compile.specs.Calls.{go-back}
 use Rattle.compile.specs.Table.{variable-at}
-use Rattle.base.proofs.Settled.{both, settled}
 use Rattle.translator.specs.Standing.{Stands, Holds, Renamed, Renames}
-use Rattle.translator.specs.Steps.{inverse}
-use Rattle.translator.proofs.Finding.{length-inverse, inverse-at}
 use Rattle.translator.proofs.Numbers.{plainly, renamed}
-use Rattle.translator.proofs.Tests.{Passed, copied}
+use Rattle.disassembler.specs.Steps.{inverse}
+use Rattle.disassembler.proofs.Finding.{length-inverse, inverse-at}
+use Rattle.disassembler.proofs.Tests.{Passed, copied}
 
 -- The tests have passed, the inverse is made and the code is copied
 pub record Copied (code t out : List ℕ) (n : ℕ) (from to : Kind) (names now : List ℕ) : Type 0 where

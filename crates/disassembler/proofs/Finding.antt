@@ -12,7 +12,7 @@ use lib.Seq.{drop-cons}
 use borrow.Author.Tests.{eq-eqb, ne-eqb}
 use Rattle.base.specs.Acts.{if_then_else_}
 use Rattle.compile.specs.Table.{variable-at}
-use Rattle.translator.specs.Steps.{inverse}
+use Rattle.disassembler.specs.Steps.{inverse}
 
 module _ (t : List ℕ) (a v : ℕ) where
   here : v < length t

@@ -1,0 +1,4 @@
+pub mod Finding
+pub mod Read
+pub mod Tests
+pub mod GoingBack
