@@ -17,8 +17,9 @@ use Rattle.record.specs.declared.Variable.{Variable}
 use Rattle.compile.specs.Compilation.{ccomp}
 use Rattle.compile.proofs.Sizes.{condition-count}
 use Rattle.buffer.proofs.Written.{Written, rest, back, rest-size, kept, behind, after, before}
-use Rattle.condition_writer.specs.Parts.{jumping, Counts, Writable, Wrote, Writes}
-use Rattle.condition_writer.specs.declared.Part.{Part}
+use Rattle.measure.specs.Parts.{Counts}
+use Rattle.measure.specs.declared.Part.{Part}
+use Rattle.condition_writer.specs.Parts.{jumping, Writable, Wrote, Writes}
 use Rattle.condition_writer.proofs.Rows.{stands}
 use Rattle.condition_writer.proofs.Fronts.{Front, test-size, others-room, start}
 

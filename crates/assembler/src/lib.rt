@@ -11,7 +11,7 @@ ghost use Rattle.compile.specs.Compilation.{ccomp};
 ghost use Rattle.compile.specs.Calls.{assemble};
 ghost use Rattle.condition_writer.specs.Parts.{Writable, Writes};
 use condition_writer::JMP;
-use condition_writer::Part;
+use measure::Part;
 use text::Reading;
 
 const STORE: u8 = 0x43;
@@ -65,7 +65,7 @@ fn write_if(text: &[u8], at: usize, left: usize, out: &mut [u8]) -> Part
     requires { ⌜ Writable ccomp 0 (command (now text) left at) (now out) ⌝ }
     ensures { λ r. ⌜ Writes ccomp (command (now (text .entry)) left at) (now (out .entry)) (now (out .exit)) r ⌝ }
 {
-    let test = condition_writer::condition_size(text, at + 1, left - 1, false);
+    let test = measure::condition_size(text, at + 1, left - 1, false);
     let then = test.next;
     let t = test.records;
     let start = 5 * t;
@@ -91,7 +91,7 @@ fn write_while(text: &[u8], at: usize, left: usize, out: &mut [u8]) -> Part
     requires { ⌜ Writable ccomp 0 (command (now text) left at) (now out) ⌝ }
     ensures { λ r. ⌜ Writes ccomp (command (now (text .entry)) left at) (now (out .entry)) (now (out .exit)) r ⌝ }
 {
-    let test = condition_writer::condition_size(text, at + 1, left - 1, false);
+    let test = measure::condition_size(text, at + 1, left - 1, false);
     let then = test.next;
     let t = test.records;
     let start = 5 * t;

@@ -17,8 +17,9 @@ use Rattle.record.specs.Bytes.{assembly-kind}
 use Rattle.compile.specs.Compilation.{bcomp}
 use Rattle.compile.proofs.Sizes.{condition-count}
 use Rattle.buffer.proofs.Written.{Written, rest, back, rest-size, kept, behind, before}
-use Rattle.condition_writer.specs.Parts.{jumping, Countable, Counts, Writable, Wrote, Writes}
-use Rattle.condition_writer.specs.declared.Part.{Part}
+use Rattle.measure.specs.Parts.{Countable, Counts}
+use Rattle.measure.specs.declared.Part.{Part}
+use Rattle.condition_writer.specs.Parts.{jumping, Writable, Wrote, Writes}
 use Rattle.condition_writer.proofs.Rows.{stands}
 
 -- A condition that is read at i, jumping over `distance` records, in front of the records Q; T are the records of both

@@ -1,4 +1,2 @@
-pub mod Leaves
-pub mod Counting
 pub mod Rows
 pub mod Fronts

@@ -13,8 +13,8 @@ use Rattle.record.specs.Records.{Record, AssemblyCode}
 use Rattle.record.specs.Bytes.{assembly-kind, code-bytes}
 use Rattle.record.specs.declared.Variable.{Variable}
 use Rattle.buffer.proofs.Written.{Written, rest, back, rest-size, kept, at-start, from-start, behind, after}
+use Rattle.measure.specs.declared.Part.{Part}
 use Rattle.condition_writer.specs.Parts.{Writable, Wrote, Writes}
-use Rattle.condition_writer.specs.declared.Part.{Part}
 
 -- ---- One part
 

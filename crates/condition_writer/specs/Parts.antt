@@ -1,5 +1,5 @@
--- What the functions that measure and write a part of a text are asked, and what they tell and leave. A part is what is
--- read at a place of the text with some nesting left; `read` is that reading, and only parts that are read are written.
+-- What the functions that write a part of a text are asked, and what they tell and leave. A part is what is read at a
+-- place of the text with some nesting left; `read` is that reading, and only parts that are read are written.
 use mathlib.Core.Path.{_≡_}
 use Prim.Native.Nat.{ℕ, _+_, _*_, _≤_, _<_}
 use mathlib.Core.List.{List}
@@ -12,24 +12,11 @@ use Rattle.text.specs.Reading.{Refusal}
 use Rattle.record.specs.Records.{AssemblyCode}
 use Rattle.record.specs.Bytes.{assembly-kind, code-bytes, over}
 use Rattle.compile.specs.Compilation.{bcomp}
-use Rattle.condition_writer.specs.declared.Part.{Part}
+use Rattle.measure.specs.declared.Part.{Part}
 
 -- A condition's records under a flag, which jump over `distance` records where its value is the flag
 abbrev pub jumping : Bool → ℕ → Condition → AssemblyCode
 jumping flag distance b = bcomp b flag (pos distance)
-
--- ---- Measuring: how many records a part has
-
--- Asked: a part is read, and its records are few
-pub record Countable {A : Type 0} (records : A → ℕ) (read : Outcome ℕ Refusal A) : Type 0 where
-  pub part : A
-  pub next : ℕ
-  pub is : read ≡ ok part next
-  pub few : records part < 2147483648
-
--- Told: the position after the part, and how many records it has
-abbrev pub Counts : {A : Type 0} → (A → ℕ) → Outcome ℕ Refusal A → Part → Type 0
-Counts {A} records read told = (a : A) (n : ℕ) → read ≡ ok a n → (told .next ≡ n) × (told .records ≡ records a)
 
 -- ---- Writing: a part's records, at the start of the buffer that its writer was lent
 

@@ -1,16 +1,14 @@
-// The records of expressions and conditions: how many there are, and these written into a lent buffer.
+// The records of expressions and conditions, written into a lent buffer.
 // Each part's writer gets the buffer from where the part's records are to stand. And's left side jumps over the right
 // side, so the right side is written first, where it will stand.
 ghost use mathlib.Core.Path.{_≡_};
-ghost use mathlib.Core.Bool.{Bool·beq};
 ghost use Prim.Native.Nat.{_+_, _<_};
 ghost use lib.ListN.{getD};
 ghost use Rattle.base.specs.Acts.{if_then_else_};
-ghost use Rattle.text.specs.Reading.{plus, expression, condition};
-ghost use Rattle.text.specs.Sizes.{expression-records, condition-records};
+ghost use Rattle.text.specs.Reading.{expression, condition};
 ghost use Rattle.compile.specs.Compilation.{acomp};
-ghost use Rattle.condition_reader.specs.Answers.{expression-parts};
-ghost use Rattle.condition_writer.specs.Parts.{jumping, Countable, Counts, Writable, Writes};
+ghost use Rattle.condition_writer.specs.Parts.{jumping, Writable, Writes};
+use measure::Part;
 
 const LOADI: u8 = 0x40;
 
@@ -23,114 +21,6 @@ pub const JMP: u8 = 0x44;
 const JMPLESS: u8 = 0x45;
 
 const JMPGE: u8 = 0x46;
-
-// A part that was measured or written: the position after it, and how many records it has.
-pub struct Part {
-    pub next: usize,
-    pub records: usize,
-}
-
-// ---- Sizes
-
-// How many records the two expressions of a Plus or a Less have, and one more; `left` is the nesting left for them.
-fn two_sizes(text: &[u8], at: usize, left: usize) -> Part
-    requires { ⌜ Countable expression-records (expression-parts (now text) left plus at) ⌝ }
-    ensures { λ r. ⌜ Counts expression-records (expression-parts (now (text .entry)) left plus at) r ⌝ }
-{
-    let first = expression_size(text, at + 1, left);
-    let middle = first.next;
-    let second = expression_size(text, middle, left);
-    Part {
-        next: second.next,
-        records: first.records + second.records + 1,
-    }
-}
-
-// How many records an expression has.
-fn expression_size(text: &[u8], at: usize, left: usize) -> Part
-    requires { ⌜ Countable expression-records (expression (now text) left at) ⌝ }
-    ensures { λ r. ⌜ Counts expression-records (expression (now (text .entry)) left at) r ⌝ }
-{
-    let byte = text[at];
-    if byte == 0x10 {
-        return Part {
-            next: at + 5,
-            records: 1,
-        };
-    }
-    if byte == 0x11 {
-        return Part {
-            next: at + 2,
-            records: 1,
-        };
-    }
-    two_sizes(text, at, left - 1)
-}
-
-// How many records Bc has under a flag: one if its value equals the flag.
-fn value_size(value: bool, flag: bool) -> usize
-    ensures { λ r. ⌜ r ≡ (if Bool·beq value flag then 1 else 0) ⌝ }
-{
-    if value {
-        if flag { 1 } else { 0 }
-    } else {
-        if flag { 0 } else { 1 }
-    }
-}
-
-// How many records a Not has under a flag: its condition's under the other flag.
-fn inverse_size(text: &[u8], at: usize, left: usize, flag: bool) -> Part
-    requires { ⌜ getD (now text) at 0 ≡ 0x21 ⌝ }
-    requires { ⌜ Countable (λ b. condition-records b flag) (condition (now text) left at) ⌝ }
-    ensures { λ r. ⌜ Counts (λ b. condition-records b flag) (condition (now (text .entry)) left at) r ⌝ }
-{
-    condition_size(text, at + 1, left - 1, !flag)
-}
-
-// How many records an And has under a flag: its left side's under false, and its right side's under the flag.
-fn both_size(text: &[u8], at: usize, left: usize, flag: bool) -> Part
-    requires { ⌜ getD (now text) at 0 ≡ 0x22 ⌝ }
-    requires { ⌜ Countable (λ b. condition-records b flag) (condition (now text) left at) ⌝ }
-    ensures { λ r. ⌜ Counts (λ b. condition-records b flag) (condition (now (text .entry)) left at) r ⌝ }
-{
-    let first = condition_size(text, at + 1, left - 1, false);
-    let middle = first.next;
-    let second = condition_size(text, middle, left - 1, flag);
-    Part {
-        next: second.next,
-        records: first.records + second.records,
-    }
-}
-
-// How many records a Less has, under either flag: its two sides', and one more.
-fn less_size(text: &[u8], at: usize, left: usize, flag: bool) -> Part
-    requires { ⌜ getD (now text) at 0 ≡ 0x23 ⌝ }
-    requires { ⌜ Countable (λ b. condition-records b flag) (condition (now text) left at) ⌝ }
-    ensures { λ r. ⌜ Counts (λ b. condition-records b flag) (condition (now (text .entry)) left at) r ⌝ }
-{
-    two_sizes(text, at, left - 1)
-}
-
-// How many records a condition has under a flag.
-pub fn condition_size(text: &[u8], at: usize, left: usize, flag: bool) -> Part
-    requires { ⌜ Countable (λ b. condition-records b flag) (condition (now text) left at) ⌝ }
-    ensures { λ r. ⌜ Counts (λ b. condition-records b flag) (condition (now (text .entry)) left at) r ⌝ }
-{
-    let byte = text[at];
-    if byte == 0x20 {
-        return Part {
-            next: at + 2,
-            records: value_size(text[at + 1] == 1, flag),
-        };
-    }
-    if byte == 0x21 {
-        return inverse_size(text, at, left, flag);
-    }
-    if byte == 0x22 {
-        return both_size(text, at, left, flag);
-    }
-    less_size(text, at, left, flag)
-}
 
 // ---- Expressions
 
@@ -246,7 +136,7 @@ fn write_and(
     ensures { λ r. ⌜ Writes (jumping flag distance) (condition (now (text .entry)) left at) (now (out .entry))
         (now (out .exit)) r ⌝ }
 {
-    let first = condition_size(text, at + 1, left - 1, false);
+    let first = measure::condition_size(text, at + 1, left - 1, false);
     let middle = first.next;
     let n = first.records;
     let start = 5 * n;
@@ -274,7 +164,7 @@ pub fn write_condition(
 {
     let byte = text[at];
     if byte == 0x20 {
-        if value_size(text[at + 1] == 1, flag) == 0 {
+        if measure::value_size(text[at + 1] == 1, flag) == 0 {
             return Part {
                 next: at + 2,
                 records: 0,

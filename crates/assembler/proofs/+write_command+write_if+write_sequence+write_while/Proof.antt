@@ -22,11 +22,11 @@ use Rattle.record.specs.declared.Variable.{Variable}
 use Rattle.compile.specs.Compilation.{ccomp}
 use Rattle.buffer.proofs.Written.{Written, kept, none, one, back}
 use Rattle.buffer.proofs.put_record.Reads as put-record
-use Rattle.condition_writer.proofs.Leaves.{leaf}
+use Rattle.measure.proofs.Leaves.{leaf}
+use Rattle.measure.proofs.condition_size.Reads as condition-size
 use Rattle.condition_writer.proofs.Rows as rows
 use Rattle.condition_writer.proofs.Rows.{Row, row}
 use Rattle.condition_writer.proofs.Fronts as fronts
-use Rattle.condition_writer.proofs.condition_size.Reads as condition-size
 use Rattle.condition_writer.proofs.write_condition.Reads as write-condition
 use Rattle.assembler.proofs.Guards as guards
 use Rattle.assembler.proofs.Guards.{Guard, jump-back, jump-over}

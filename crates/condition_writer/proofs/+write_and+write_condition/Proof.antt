@@ -23,13 +23,13 @@ use Rattle.record.specs.Bytes.{assembly-kind, first-byte, operand}
 use Rattle.compile.specs.Compilation.{bcomp}
 use Rattle.buffer.proofs.Written.{Written, kept, one, back}
 use Rattle.buffer.proofs.put_record.Reads as put-record
+use Rattle.measure.proofs.Leaves.{Leaf, leaf}
+use Rattle.measure.proofs.value_size.Reads as value-size
+use Rattle.measure.proofs.condition_size.Reads as condition-size
 use Rattle.condition_writer.specs.Parts.{jumping}
-use Rattle.condition_writer.proofs.Leaves.{Leaf, leaf}
 use Rattle.condition_writer.proofs.Rows as rows
 use Rattle.condition_writer.proofs.Fronts as fronts
 use Rattle.condition_writer.proofs.Fronts.{Front, Sides}
-use Rattle.condition_writer.proofs.value_size.Reads as value-size
-use Rattle.condition_writer.proofs.condition_size.Reads as condition-size
 use Rattle.condition_writer.proofs.reach.Reads as reach
 use Rattle.condition_writer.proofs.write_less.Reads as write-less
 use Rattle.condition_writer.proofs.write_condition.Reads as write-condition

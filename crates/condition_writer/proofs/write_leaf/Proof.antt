@@ -15,7 +15,7 @@ use Rattle.record.specs.Records.{LOADI, LOAD, variable}
 use Rattle.record.specs.Bytes.{first-byte, operand}
 use Rattle.compile.specs.Compilation.{acomp}
 use Rattle.buffer.proofs.Written.{one}
-use Rattle.condition_writer.proofs.Leaves.{Leaf, leaf}
+use Rattle.measure.proofs.Leaves.{Leaf, leaf}
 use Rattle.condition_writer.proofs.Rows as rows
 use Rattle.condition_writer.proofs.write_leaf.Statement.{statement}
 use Rattle.condition_writer.proofs.write_leaf.Tie as tie

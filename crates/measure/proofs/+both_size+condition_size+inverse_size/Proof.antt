@@ -1,6 +1,6 @@
 -- A condition's size under a flag, by recursion: Not's and And's functions are called with the nesting left, and call
 -- for a part with one less. The measure is twice the nesting left, and one more for every condition.
-use mathlib.Core.Path.{_≡_, sym, ap, _∙_}
+use mathlib.Core.Path.{sym, ap, _∙_}
 use mathlib.Core.Bool.{false}
 use Prim.Native.Nat.{ℕ, _+_, _-_, _<_}
 use native.Mathlib.Omega.{arith}
@@ -13,21 +13,21 @@ use Rattle.text.specs.Syntax.{Condition, Bc, Not}
 use Rattle.text.specs.Reading.{condition}
 use Rattle.text.specs.Sizes.{condition-records}
 use Rattle.text.proofs.Opened as text-says
-use Rattle.condition_writer.proofs.Leaves.{Leaf, leaf}
-use Rattle.condition_writer.proofs.Counting.{told, Pair, pair, first-countable, second-countable, Both, both}
-use Rattle.condition_writer.proofs.less_size.Reads as less-size
-use Rattle.condition_writer.proofs.value_size.Reads as value-size
-use Rattle.condition_writer.proofs.condition_size.Reads as condition-size
-use Rattle.condition_writer.proofs.condition_size.Kinds as kinds
-use Rattle.condition_writer.proofs.inverse_size.Reads as inverse-size
-use Rattle.condition_writer.proofs.inverse_size.Kinds as inverse-kinds
-use Rattle.condition_writer.proofs.both_size.Reads as both-size
-use Rattle.condition_writer.proofs.both_size.Kinds as both-kinds
-use Rattle.condition_writer.proofs.+both_size+condition_size+inverse_size.Lts-condition_size as lts
-use Rattle.condition_writer.proofs.+both_size+condition_size+inverse_size.Lts-inverse_size as inverse-lts
-use Rattle.condition_writer.proofs.+both_size+condition_size+inverse_size.Lts-both_size as both-lts
-use Rattle.condition_writer.proofs.+both_size+condition_size+inverse_size.{statement}
-use Rattle.condition_writer.proofs.+both_size+condition_size+inverse_size.Tie.{close}
+use Rattle.measure.proofs.Leaves.{Leaf, leaf}
+use Rattle.measure.proofs.Counting.{told, Pair, pair, first-countable, second-countable, Both, both}
+use Rattle.measure.proofs.less_size.Reads as less-size
+use Rattle.measure.proofs.value_size.Reads as value-size
+use Rattle.measure.proofs.condition_size.Reads as condition-size
+use Rattle.measure.proofs.condition_size.Kinds as kinds
+use Rattle.measure.proofs.inverse_size.Reads as inverse-size
+use Rattle.measure.proofs.inverse_size.Kinds as inverse-kinds
+use Rattle.measure.proofs.both_size.Reads as both-size
+use Rattle.measure.proofs.both_size.Kinds as both-kinds
+use Rattle.measure.proofs.+both_size+condition_size+inverse_size.Lts-condition_size as lts
+use Rattle.measure.proofs.+both_size+condition_size+inverse_size.Lts-inverse_size as inverse-lts
+use Rattle.measure.proofs.+both_size+condition_size+inverse_size.Lts-both_size as both-lts
+use Rattle.measure.proofs.+both_size+condition_size+inverse_size.{statement}
+use Rattle.measure.proofs.+both_size+condition_size+inverse_size.Tie.{close}
 
 abbrev μ : Measures 1 kinds.ps ℕ
 μ κs a = a .1 .1 .0 + a .1 .1 .0 + 1

@@ -15,16 +15,16 @@ use Rattle.text.specs.Sizes.{expression-records}
 use Rattle.text.proofs.Heads as heads
 use Rattle.text.proofs.Opened as text-says
 use Rattle.condition_reader.specs.Answers.{expression-parts}
-use Rattle.condition_writer.proofs.Leaves.{Leaf, leaf}
-use Rattle.condition_writer.proofs.Counting.{told, Pair, pair, first-countable, second-countable, Both, both}
-use Rattle.condition_writer.proofs.expression_size.Reads as expression-size
-use Rattle.condition_writer.proofs.expression_size.Kinds as kinds
-use Rattle.condition_writer.proofs.two_sizes.Reads as two-sizes
-use Rattle.condition_writer.proofs.two_sizes.Kinds as two-kinds
-use Rattle.condition_writer.proofs.+expression_size+two_sizes.Lts-expression_size as lts
-use Rattle.condition_writer.proofs.+expression_size+two_sizes.Lts-two_sizes as two-lts
-use Rattle.condition_writer.proofs.+expression_size+two_sizes.{statement}
-use Rattle.condition_writer.proofs.+expression_size+two_sizes.Tie.{close}
+use Rattle.measure.proofs.Leaves.{Leaf, leaf}
+use Rattle.measure.proofs.Counting.{told, Pair, pair, first-countable, second-countable, Both, both}
+use Rattle.measure.proofs.expression_size.Reads as expression-size
+use Rattle.measure.proofs.expression_size.Kinds as kinds
+use Rattle.measure.proofs.two_sizes.Reads as two-sizes
+use Rattle.measure.proofs.two_sizes.Kinds as two-kinds
+use Rattle.measure.proofs.+expression_size+two_sizes.Lts-expression_size as lts
+use Rattle.measure.proofs.+expression_size+two_sizes.Lts-two_sizes as two-lts
+use Rattle.measure.proofs.+expression_size+two_sizes.{statement}
+use Rattle.measure.proofs.+expression_size+two_sizes.Tie.{close}
 
 abbrev μ : Measures 1 kinds.ps ℕ
 μ κs a = a .1 .1 .0 + a .1 .1 .0

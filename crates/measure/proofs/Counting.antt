@@ -6,8 +6,8 @@ use native.Mathlib.Omega.{arith}
 use Rattle.base.specs.Acts.{Outcome, ok}
 use Rattle.text.specs.Reading.{Refusal, Reader}
 use Rattle.text.proofs.Opened.{Two}
-use Rattle.condition_writer.specs.Parts.{Countable, Counts}
-use Rattle.condition_writer.specs.declared.Part.{Part}
+use Rattle.measure.specs.Parts.{Countable, Counts}
+use Rattle.measure.specs.declared.Part.{Part}
 
 -- What is told of the part that was asked for is told of every part that is read there.
 pub told : {A : Type 0} {records : A → ℕ} {read : Outcome ℕ Refusal A} (q : Countable records read) {t : Part}

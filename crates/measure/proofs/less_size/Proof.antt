@@ -9,9 +9,9 @@ use Rattle.text.specs.Reading.{plus, pass, expression-of, expression}
 use Rattle.text.specs.Sizes.{expression-records, condition-records}
 use Rattle.text.proofs.Opened as text-says
 use Rattle.condition_reader.specs.Answers.{expression-parts}
-use Rattle.condition_writer.proofs.Counting.{told}
-use Rattle.condition_writer.proofs.less_size.Statement.{statement}
-use Rattle.condition_writer.proofs.less_size.Tie as tie
+use Rattle.measure.proofs.Counting.{told}
+use Rattle.measure.proofs.less_size.Statement.{statement}
+use Rattle.measure.proofs.less_size.Tie as tie
 
 -- Less's two sides, read as a sum's
 less-read : (text : List ℕ) (left i : ℕ) {b : Condition} {n : ℕ}
