@@ -1,10 +1,11 @@
 -- What the answer of a call says of its tests, and the other way: a call that gives has passed each test, one after the
 -- other, and leaves what it writes; one that declines leaves its buffers untouched.
-use mathlib.Core.Path.{_≡_, refl}
+use mathlib.Core.Path.{_≡_, refl, sym, ap}
 use mathlib.Core.Bool.{Bool, true, false, _&&_}
 use Prim.Native.Nat.{ℕ}
 use native.Mathlib.Omega.{arith}
 use Rattle.base.specs.Answers.{Answer, gives, refused, unless_refuse_at_else_, and-then, settle}
+use Rattle.base.proofs.Answers.{gives-one}
 
 -- What is refused is not given.
 not-both : {A P : Type 0} {a : A} {number place : ℕ} → refused number place ≡ gives a → P
@@ -47,3 +48,17 @@ module _ {A R B : Type 0} (tests : Answer A) (result : A → R) (buffers : A →
       → (refused number place, old) ≡ settle tests result buffers old
   unfolding settle
   declined e = rw e
+
+-- What a call that gives says of its tests: they gave something, of which its result and its buffers are
+pub record Gave {A R B : Type 0} (tests : Answer A) (result : A → R) (buffers : A → B) (r : R) (now : B) : Type 0 where
+  pub value : A
+  pub passed : tests ≡ gives value
+  pub tells : r ≡ result value
+  pub leaves : now ≡ buffers value
+
+pub gave : {A R B : Type 0} (tests : Answer A) (result : A → R) (buffers : A → B) (old : B) {r : R} {now : B}
+    → (gives r, now) ≡ settle tests result buffers old → Gave tests result buffers r now
+unfolding settle
+gave (gives a) result buffers old e =
+    record { value = a; passed = refl; tells = gives-one _ _ (ap (λ x. x .0) e); leaves = ap (λ x. x .1) e }
+gave (refused number place) result buffers old e = not-both (sym (ap (λ x. x .0) e))

@@ -1,14 +1,18 @@
--- The calls where their tests pass: what the tests give, and what each call then gives and leaves. The tests are true
--- one after the other; what reading gives is within the limits of texts.
+-- The calls where their tests pass: what the tests give, and what each call then gives and leaves; and the other way,
+-- what was found where the tests gave a command. The tests are true one after the other; what reading gives is within the
+-- limits of texts.
 use mathlib.Core.Path.{_≡_, _∙_, ap}
 use mathlib.Core.Bool.{true}
 use Prim.Native.Nat.{ℕ, _*_, _≤_}
 use native.Mathlib.Omega.{arith}
 use mathlib.Core.List.{List}
+use lib.Dec.{eqb, leb}
 use lib.ListN.{length, take, drop, length-map}
 use lib.Seq.{take-at}
-use borrow.Author.Tests.{eq-eqb, le-leb}
-use Rattle.base.specs.Answers.{gives, and-then, settle}
+use borrow.Author.Tests.{eq-eqb, le-leb, leb-true}
+use Rattle.base.specs.Answers.{Answer, gives, unless_refuse_at_else_, and-then, settle}
+use Rattle.base.proofs.Answers.{gives-one}
+use Rattle.base.proofs.Settled.{unless-passed, needed}
 use Rattle.text.specs.Syntax.{Command}
 use Rattle.text.specs.Encoding.{Bytes, Valid}
 use Rattle.text.specs.Reading.{read-text}
@@ -43,6 +47,21 @@ pub assembled : (text out : List ℕ) {c : Command} → read-text text ≡ gives
 unfolding assemble settle
 assembled text out e room = simp (assemble-gives text out e room)
 
+-- There is room for the records of what was read, if the last test, of the output's length, gave it.
+room-passed : (out : List ℕ) {c d : Command} → (unless leb (5 * records d) (length out) refuse 7 at 0 else gives d) ≡ gives c
+    → (gives d ≡ gives c) × (5 * records c ≤ length out)
+room-passed out {c} {d} e =
+    let u = unless-passed (leb (5 * records d) (length out)) 7 0 (gives d) e in
+    (u .1, rw (gives-one d c (u .1)) at (leb-true (5 * records d) (length out) (u .0)))
+
+pub assemble-passed : (text out : List ℕ) {c : Command} → assemble-tests text out ≡ gives c
+    → (read-text text ≡ gives c) × (5 * records c ≤ length out)
+unfolding assemble-tests
+assemble-passed text out e =
+    let n = needed (read-text text) _ e in
+    let u = room-passed out (n .then-gives) in
+    (n .given ∙ u .0, u .1)
+
 -- ---- compile
 
 pub compile-gives : (text code t : List ℕ) {c : Command} → read-text text ≡ gives c → length t ≡ 64
@@ -57,6 +76,14 @@ pub compiled : (text : List ℕ) (lent : Compiled) {c : Command} → read-text t
     ≡ (gives (sizes c), record { code = over (machine-bytes c) (lent .code); table = table (ccomp c) })
 unfolding compile settle
 compiled text lent e long room = simp (compile-gives text (lent .code) (lent .table) e long room)
+
+pub compile-passed : (text code t : List ℕ) {c : Command} → compile-tests text code t ≡ gives c
+    → (read-text text ≡ gives c) × (5 * records c ≤ length code)
+unfolding compile-tests
+compile-passed text code t e =
+    let n = needed (read-text text) _ e in
+    let u = room-passed code (unless-passed (eqb (length t) 64) 8 0 _ (n .then-gives) .1) in
+    (n .given ∙ u .0, u .1)
 
 -- The machine code is as many records as reading says, of five bytes,
 pub machine-count : (c : Command) → length (to-m-prog (ccomp c)) ≡ records c

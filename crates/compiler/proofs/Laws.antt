@@ -1,14 +1,14 @@
 -- Compiling by assembling and then translating: what each answer of assembling says of compiling.
-use mathlib.Core.Path.{_≡_, refl, sym, _∙_, ap}
+use mathlib.Core.Path.{_≡_, sym, _∙_, ap}
 use Prim.Native.Nat.{ℕ, _*_, _≤_}
 use native.Mathlib.Omega.{arith}
 use mathlib.Core.Bool.{Bool, true, false}
 use mathlib.Core.List.{List}
 use lib.Dec.{eqb, leb}
 use lib.ListN.{length}
-use borrow.Author.Tests.{eq-eqb, ne-eqb, leb-true}
-use Rattle.base.proofs.Answers.{gives-one}
+use borrow.Author.Tests.{eq-eqb, ne-eqb}
 use Rattle.base.specs.Answers.{Answer, gives, refused, unless_refuse_at_else_, and-then, settle}
+use Rattle.base.proofs.Settled as Settled
 use Rattle.text.specs.Syntax.{Command}
 use Rattle.text.specs.Reading.{read-text}
 use Rattle.text.specs.Encoding.{Bytes}
@@ -17,7 +17,7 @@ use Rattle.record.specs.Bytes.{assembly-kind, code-bytes, over}
 use Rattle.compile.specs.Compilation.{ccomp}
 use Rattle.compile.specs.Table.{table}
 use Rattle.compile.specs.Calls.{assemble-tests, assemble, machine-bytes, Compiled, compile-tests, compile}
-use Rattle.compile.proofs.Calls.{read-fits}
+use Rattle.compile.proofs.Calls.{read-fits, assemble-passed}
 use Rattle.compile.proofs.Calls.{compiled as compile-gives}
 use Rattle.translator.specs.Standing.{Stands}
 use Rattle.translator.specs.Translated.{Translated}
@@ -86,38 +86,13 @@ pub record Assembled (text out now : List ℕ) (z : Sizes) : Type 0 where
   pub tells : z ≡ sizes found
   pub left : now ≡ over (code-bytes assembly-kind (ccomp found)) out
 
-gave-by : (text out now : List ℕ) (z : Sizes) → (gives z, now) ≡ assemble text out → Assembled text out now z
-unfolding assemble assemble-tests settle and-then
-gave-by text out now z e = by (read-text text) refl e
-  where
-    tested : (c : Command) → read-text text ≡ gives c → (b : Bool) → leb (5 * records c) (length out) ≡ b
-        → (gives z, now) ≡ settle (unless b refuse 7 at 0 else gives c) sizes (assembly out) out
-        → Assembled text out now z
-    tested c r true h e = record {
-      found = c;
-      read = r;
-      room = leb-true (5 * records c) (length out) h;
-      tells = gives-one z (sizes c) (ap (λ (x : Answer Sizes × List ℕ). x .0) e);
-      left = ap (λ (x : Answer Sizes × List ℕ). x .1) e;
-    }
-    tested c r false h e =
-        let first : gives z ≡ refused 7 0 = ap (λ (x : Answer Sizes × List ℕ). x .0) e in
-        let no : _≡_ {A = ℕ} 0 1 = cc in
-        absurd (omega arith)
-
-    by : (a : Answer Command) → read-text text ≡ a → (gives z, now) ≡ settle (and-then a (λ c.
-        unless leb (5 * records c) (length out) refuse 7 at 0 else
-        gives c)) sizes (assembly out) out
-        → Assembled text out now z
-    by (gives c) r e = tested c r (leb (5 * records c) (length out)) refl e
-    by (refused number place) r e =
-        let first : gives z ≡ refused number place = ap (λ (x : Answer Sizes × List ℕ). x .0) e in
-        let no : _≡_ {A = ℕ} 0 1 = cc in
-        absurd (omega arith)
-
 pub gave : (text out now : List ℕ) (x : Answer Sizes) (z : Sizes) → (x, now) ≡ assemble text out → x ≡ gives z
     → Assembled text out now z
-gave text out now x z e f = gave-by text out now z ((λ i. (sym f i, now)) ∙ e)
+unfolding assemble
+gave text out now x z e f =
+    let g = Settled.gave (assemble-tests text out) sizes (assembly out) out ((λ i. (sym f i, now)) ∙ e) in
+    let p = assemble-passed text out (g .passed) in
+    record { found = g .value; read = p .0; room = p .1; tells = g .tells; left = g .leaves }
 
 module _ {text out now : List ℕ} {z : Sizes} (bytes : Bytes text) (a : Assembled text out now z) where
   -- its assembly records stand in the output

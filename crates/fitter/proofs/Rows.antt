@@ -1,71 +1,29 @@
 -- The four calls in a row: what each call's answer makes of the definition of the row.
-use mathlib.Core.Path.{_≡_, refl, sym, _∙_, ap}
+use mathlib.Core.Path.{_≡_, sym, _∙_, ap}
 use Prim.Native.Nat.{ℕ, _*_, _≤_}
 use native.Mathlib.Omega.{arith}
 use mathlib.Core.List.{List}
-use mathlib.Core.Bool.{Bool, true, false}
-use lib.Dec.{eqb, leb}
 use lib.IntN.{ℤ}
 use lib.ListN.{length, take}
-use borrow.Author.Tests.{leb-true}
-use Rattle.base.specs.Answers.{Answer, gives, refused, unless_refuse_at_else_, and-then, settle}
-use Rattle.base.proofs.Answers.{gives-one}
+use Rattle.base.specs.Answers.{Answer, gives, refused}
 use Rattle.base.specs.Ends.{Ran}
+use Rattle.base.proofs.Settled.{gave}
 use Rattle.text.specs.Syntax.{Command}
 use Rattle.text.specs.Reading.{read-text}
 use Rattle.text.specs.Encoding.{Bytes}
 use Rattle.text.specs.Sizes.{records, Sizes, sizes}
 use Rattle.source.specs.Rules.{Store}
 use Rattle.source.specs.Calls.{run-source}
-use Rattle.record.specs.Bytes.{over}
 use Rattle.record.proofs.Bytes.{length-over}
 use Rattle.machine.specs.Calls.{run-machine}
-use Rattle.compile.specs.Compilation.{ccomp}
 use Rattle.compile.specs.Table.{table}
 use Rattle.compile.specs.Calls.{machine-bytes, Compiled, compile-tests, compile}
-use Rattle.compile.proofs.Calls.{machine-length}
+use Rattle.compile.proofs.Calls.{compile-passed, machine-length}
 use Rattle.fitting.specs.Calls.{load, read-back-call, Lent, after-reading, after-running, after-loading}
 use Rattle.fitting.specs.Calls.{after-compiling, fit}
 use Rattle.fitting.specs.Demand3.{Ready}
 use Rattle.fitting.proofs.Demand3.{rows-fitted}
 use Rattle.fitter.specs.Rows.{row}
-
--- ---- what compiling gave
-
-pub record CompileGave (text : List ℕ) (l l′ : Compiled) (z : Sizes) : Type 0 where
-  pub found : Command
-  pub room : 5 * records found ≤ length (l .code)
-  pub tells : z ≡ sizes found
-  pub leaves : l′ ≡ record { code = over (machine-bytes found) (l .code); table = table (ccomp found) }
-
-compile-gave : (text : List ℕ) (l l′ : Compiled) (z : Sizes) → (gives z, l′) ≡ compile text l → CompileGave text l l′ z
-unfolding compile compile-tests settle and-then
-compile-gave text l l′ z e = by (read-text text) e
-  where
-    made : Command → Compiled
-    made c = record { code = over (machine-bytes c) (l .code); table = table (ccomp c) }
-
-    never : {number place : ℕ} → gives z ≡ refused number place → CompileGave text l l′ z
-    never h = let no : _≡_ {A = ℕ} 0 1 = cc in absurd (omega arith)
-
-    tested : (c : Command) (b b′ : Bool) → leb (5 * records c) (length (l .code)) ≡ b′
-        → (gives z, l′) ≡ settle (unless b refuse 8 at 0 else unless b′ refuse 7 at 0 else gives c) sizes made l
-        → CompileGave text l l′ z
-    tested c true true h e = record {
-      found = c;
-      room = leb-true (5 * records c) (length (l .code)) h;
-      tells = gives-one z (sizes c) (ap (λ (x : Answer Sizes × Compiled). x .0) e);
-      leaves = ap (λ (x : Answer Sizes × Compiled). x .1) e;
-    }
-    tested c true false h e = never (ap (λ (x : Answer Sizes × Compiled). x .0) e)
-    tested c false b′ h e = never (ap (λ (x : Answer Sizes × Compiled). x .0) e)
-
-    by : (a : Answer Command) → (gives z, l′) ≡ settle (and-then a (λ c.
-        unless eqb (length (l .table)) 64 refuse 8 at 0 else
-        unless leb (5 * records c) (length (l .code)) refuse 7 at 0 else
-        gives c)) sizes made l → CompileGave text l l′ z
-    by (gives c) e = tested c (eqb (length (l .table)) 64) (leb (5 * records c) (length (l .code))) refl e
-    by (refused number place) e = never (ap (λ (x : Answer Sizes × Compiled). x .0) e)
 
 -- ---- running and reading back
 
@@ -136,15 +94,17 @@ module _ (text code code′ t t′ : List ℕ) (m : List ℤ) (s : Store) (budge
 
   -- the records written are within the output
   pub compile-room : (z : Sizes) → x ≡ gives z → 5 * z .records ≤ length code′
-  compile-room z f = room (compile-gave text (record { code = code; table = t }) left z ((λ i. (sym f i, left)) ∙ e))
-    where
-      room : CompileGave text (record { code = code; table = t }) left z → 5 * z .records ≤ length code′
-      room g = omega (
+  unfolding compile
+  compile-room z f =
+      let g = gave (compile-tests text code t) sizes _ _ ((λ i. (sym f i, left)) ∙ e) in
+      let c = g .value in
+      let room = compile-passed text code t (g .passed) .1 in
+      omega (
         arith,
-        g .room,
+        room,
         ap (λ (z : Sizes). z .records) (g .tells),
         ap (λ (l : Compiled). length (l .code)) (g .leaves),
-        length-over (machine-bytes (g .found)) code (omega (arith, machine-length (g .found), g .room)),
+        length-over (machine-bytes c) code (omega (arith, machine-length c, room)),
       )
 
 -- the row's demand 3, from its equation

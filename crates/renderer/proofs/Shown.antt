@@ -8,6 +8,7 @@ use lib.ListN.{length}
 use Rattle.base.specs.Answers.{Answer, gives, refused, and-then}
 use Rattle.base.specs.Ends.{Ran}
 use Rattle.base.proofs.Answers.{gives-one}
+use Rattle.base.proofs.Settled.{needed}
 use Rattle.text.specs.Syntax.{Command}
 use Rattle.text.specs.Reading.{read-text}
 use Rattle.text.specs.Encoding.{Bytes}
@@ -59,12 +60,10 @@ pub record Read (text : List ℕ) (z : Sizes) : Type 0 where
   pub tells : z ≡ sizes found
 
 pub was-read : (text : List ℕ) (z : Sizes) → gives z ≡ read-call text → Read text z
-unfolding read-call and-then
-was-read text z e = by (read-text text) refl e
-  where
-    by : (a : Answer Command) → read-text text ≡ a → gives z ≡ and-then a (λ c. gives (sizes c)) → Read text z
-    by (gives c) f e = record { found = c; read = f; tells = gives-one z (sizes c) e }
-    by (refused k p) f e = let no : _≡_ {A = ℕ} 0 1 = cc in absurd (omega arith)
+unfolding read-call
+was-read text z e =
+    let n = needed (read-text text) (λ c. gives (sizes c)) (sym e) in
+    record { found = n .value; read = n .given; tells = gives-one z (sizes (n .value)) (sym (n .then-gives)) }
 
 -- What the calls of an accepted text came to: the codes, the table and the store left, and the run's answer
 pub record Came (text a m t : List ℕ) (s : Store) (z : Sizes) (x : Answer Ran) : Type 0 where
