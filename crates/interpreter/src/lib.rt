@@ -1,4 +1,4 @@
-// The source executor: a profile text is run as it stands, by the source rules.
+// The source executor's call: a profile text is read, and then run as it stands, by the source rules.
 ghost use mathlib.Core.Path.{_≡_};
 ghost use Rattle.base.specs.Runs.{run-answer};
 ghost use Rattle.source.specs.Calls.{run-source};
