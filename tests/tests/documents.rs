@@ -21,16 +21,17 @@ fn has_word(text: &str, word: &str) -> bool {
     text.split([' ', '\n', '(', ')', ':', '{', '}', ',', ';']).any(|part| part == word)
 }
 
-/// `crate/specs/File` and `crate/proofs/File` are files or folders; `crate/src/lib.rt` is a file.
+/// `crate/specs/File` and `crate/proofs/File` are files or folders; `crate/src/lib.rt` and `crate/must-fail/edit` are files.
 #[test]
 fn files() {
     let mut count = 0;
     for document in ["README.md", "docs/DECISIONS.md", "docs/READERS.md"] {
         for name in quoted(document) {
             let parts: Vec<&str> = name.split('/').collect();
-            if parts.len() >= 3 && is_crate(parts[0]) && ["specs", "proofs", "src"].contains(&parts[1]) {
+            if parts.len() >= 3 && is_crate(parts[0]) && ["specs", "proofs", "src", "must-fail"].contains(&parts[1]) {
                 let path = root().join("crates").join(&name);
-                assert!(path.exists() || path.with_extension("antt").exists(), "{document}: {name}");
+                let there = ["antt", "edit"].iter().any(|extension| path.with_extension(extension).exists());
+                assert!(path.exists() || there, "{document}: {name}");
                 count += 1;
             }
         }
@@ -76,4 +77,23 @@ fn functions() {
         }
     }
     assert!(count > 15);
+}
+
+/// Every must-fail edit is named in docs/READERS.md.
+#[test]
+fn edits() {
+    let named = quoted("docs/READERS.md");
+    let mut count = 0;
+    for layer in std::fs::read_dir(root().join("crates")).unwrap() {
+        let layer = layer.unwrap();
+        let Ok(edits) = std::fs::read_dir(layer.path().join("must-fail")) else { continue };
+        for edit in edits {
+            let path = edit.unwrap().path();
+            let stem = path.file_stem().unwrap().to_str().unwrap();
+            let name = format!("{}/must-fail/{stem}", layer.file_name().to_str().unwrap());
+            assert!(named.contains(&name), "docs/READERS.md does not name {name}");
+            count += 1;
+        }
+    }
+    assert!(count > 60);
 }
