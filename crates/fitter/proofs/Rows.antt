@@ -11,12 +11,11 @@ use Rattle.base.proofs.Settled.{gave}
 use Rattle.text.specs.Syntax.{Command}
 use Rattle.text.specs.Reading.{read-text}
 use Rattle.text.specs.Encoding.{Bytes}
-use Rattle.text.specs.Sizes.{records, Sizes, sizes}
+use Rattle.text.specs.Sizes.{Sizes, sizes}
 use Rattle.source.specs.Rules.{Store}
 use Rattle.source.specs.Calls.{run-source}
 use Rattle.record.proofs.Bytes.{length-over}
 use Rattle.machine.specs.Calls.{run-machine}
-use Rattle.compile.specs.Table.{table}
 use Rattle.compile.specs.Calls.{machine-bytes, Compiled, compile-tests, compile}
 use Rattle.compile.proofs.Calls.{compile-passed, machine-length}
 use Rattle.fitting.specs.Calls.{load, read-back-call, Lent, after-reading, after-running, after-loading}
