@@ -10,8 +10,6 @@
 
 #include "profile.h"
 
-enum { LONGEST_TEXT = 4096, RECORD = 5, TABLE = 64 };
-
 static void print_bytes(const char *name, const uint8_t *bytes, size_t length)
 {
     fputs(name, stdout);
@@ -23,12 +21,12 @@ static void print_bytes(const char *name, const uint8_t *bytes, size_t length)
 static void print_records(const char *name, const uint8_t *code, unsigned records)
 {
     for (unsigned i = 0; i < records; i++)
-        print_bytes(name, code + RECORD * i, RECORD);
+        print_bytes(name, code + PROFILE_RECORD_BYTES * i, PROFILE_RECORD_BYTES);
 }
 
 static int refused(uint64_t answer)
 {
-    printf("refused %u at %u\n", profile_refusal(answer), (unsigned)profile_place(answer));
+    printf("refused %u at %u\n", (unsigned)profile_refusal(answer), (unsigned)profile_place(answer));
     return 1;
 }
 
@@ -47,8 +45,8 @@ static long read_file(const char *path, uint8_t *buffer, size_t room)
 int main(int count, char **words)
 {
     /* One byte more than the longest text, so that a longer file is refused as a text. */
-    static uint8_t text[LONGEST_TEXT + 1], code[RECORD * LONGEST_TEXT], assembly[RECORD * LONGEST_TEXT];
-    static uint8_t table[TABLE];
+    static uint8_t text[PROFILE_TEXT_BYTES + 1], table[PROFILE_VARIABLES];
+    static uint8_t code[PROFILE_RECORD_BYTES * PROFILE_TEXT_BYTES], assembly[sizeof code];
 
     if (count != 2) {
         fputs("usage: host FILE\n", stderr);
@@ -62,14 +60,15 @@ int main(int count, char **words)
 
     /* A text has at most as many records as bytes, so these buffers are enough for any. */
     uint64_t sizes = profile_read(text, (size_t)length);
-    if (profile_refusal(sizes))
+    if (profile_refusal(sizes) != PROFILE_ACCEPTED)
         return refused(sizes);
     uint64_t compiled = profile_compile(text, (size_t)length, code, sizeof code, table, sizeof table);
-    if (profile_refusal(compiled))
+    if (profile_refusal(compiled) != PROFILE_ACCEPTED)
         return refused(compiled);
     unsigned records = profile_records(compiled);
-    uint64_t back = profile_go_back(code, RECORD * (size_t)records, table, sizeof table, assembly, sizeof assembly);
-    if (profile_refusal(back))
+    size_t written = PROFILE_RECORD_BYTES * (size_t)records;
+    uint64_t back = profile_go_back(code, written, table, sizeof table, assembly, sizeof assembly);
+    if (profile_refusal(back) != PROFILE_ACCEPTED)
         return refused(back);
 
     printf("records %u stack %u cells %u\n", profile_records(sizes), profile_depth(sizes), profile_cells(sizes));

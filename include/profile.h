@@ -13,14 +13,8 @@
  *     bits 24-31  D, the depth bound of the stack       (reading and compiling)
  *     bits 32-39  n, how many variables the text names  (reading and compiling)
  *
- * Refusals:
- *   1 the text ends too early          2 a byte begins no construct of the kind due
- *   3 a variable above 63, or a Bc byte above 1
- *   4 a construct at nesting 65        5 bytes are left over after the command
- *   6 more than 4,096 bytes of text    7 the output is shorter than 5 bytes for each record
- *   8 the table is not 64 bytes        9 the code is not whole records, or more than 4,096 of them
- *  10 a record is unknown, its unused operand is not 0, or its address is not 1 to n
- *  12 the table's nonzero entries are not 1 to n, once each
+ * A refusal's number is one of `enum profile_refusal_number`. `rt staticlib pod` makes the library, libpod.a; it links into
+ * x86-64 programs.
  */
 #ifndef PROFILE_H
 #define PROFILE_H
@@ -31,6 +25,34 @@
 #ifdef __cplusplus
 extern "C" {
 #endif
+
+/* The limits. Memory for a compiled profile has D + 1 + n cells, at most PROFILE_MEMORY_CELLS. */
+enum {
+    PROFILE_TEXT_BYTES = 4096,   /* the longest text */
+    PROFILE_NESTING = 64,        /* the deepest nesting; the root has 1 */
+    PROFILE_RECORD_BYTES = 5,    /* one record */
+    PROFILE_RECORDS = 4096,      /* the most records of one code; a text has at most as many as bytes */
+    PROFILE_VARIABLES = 64,      /* variables, numbered from 0; the bytes of a table */
+    PROFILE_STACK_CELLS = 64,    /* the most stack cells */
+    PROFILE_MEMORY_CELLS = 129   /* the stack, address 0, and an address for each variable */
+};
+
+/* Why a call declines, and what its place is: a byte offset of the text for 1 to 5, a record's index for 10, else 0. */
+enum profile_refusal_number {
+    PROFILE_ACCEPTED = 0,        /* not declined */
+    PROFILE_ENDS_EARLY = 1,      /* the text ends too early; place: its length */
+    PROFILE_NO_CONSTRUCT = 2,    /* a byte begins no construct of the kind due */
+    PROFILE_BAD_OPERAND = 3,     /* a variable above 63, or a Bc byte above 1; place: the operand */
+    PROFILE_TOO_NESTED = 4,      /* a construct at nesting 65 */
+    PROFILE_LEFT_OVER = 5,       /* bytes are left over after the command */
+    PROFILE_TOO_LONG = 6,        /* more than 4,096 bytes of text */
+    PROFILE_SHORT_OUTPUT = 7,    /* the output is shorter than 5 bytes for each record */
+    PROFILE_BAD_LENGTH = 8,      /* the table is not 64 bytes */
+    PROFILE_NOT_RECORDS = 9,     /* the code is not whole records, or more than 4,096 of them */
+    PROFILE_BAD_RECORD = 10,     /* a record unknown, its unused operand not 0, or its address not 1 to n */
+    PROFILE_BAD_MEMORY = 11,     /* D or n above 64, or a slice of the wrong length; not given by these three calls */
+    PROFILE_BAD_TABLE = 12       /* the table's nonzero entries are not 1 to n, once each */
+};
 
 /* Reads a text. Gives its record count, D and n. Refuses 6, then 1 to 5. */
 uint64_t profile_read(const uint8_t *text, size_t text_len);
@@ -47,7 +69,10 @@ uint64_t profile_go_back(const uint8_t *code, size_t code_len, const uint8_t *ta
                          size_t out_len);
 
 /* The refusal's number, 0 where the call did not decline. */
-static inline unsigned profile_refusal(uint64_t answer) { return (unsigned)(answer & 0xff); }
+static inline enum profile_refusal_number profile_refusal(uint64_t answer)
+{
+    return (enum profile_refusal_number)(answer & 0xff);
+}
 
 /* The refusal's place. */
 static inline uint32_t profile_place(uint64_t answer) { return (uint32_t)(answer >> 8); }

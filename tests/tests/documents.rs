@@ -2,6 +2,9 @@
 
 use std::path::{Path, PathBuf};
 
+const DOCUMENTS: [&str; 5] =
+    ["README.md", "docs/ARCHITECTURE.md", "docs/CONTRIBUTING.md", "docs/DECISIONS.md", "docs/READERS.md"];
+
 fn root() -> PathBuf {
     Path::new(env!("CARGO_MANIFEST_DIR")).join("..")
 }
@@ -25,7 +28,7 @@ fn has_word(text: &str, word: &str) -> bool {
 #[test]
 fn files() {
     let mut count = 0;
-    for document in ["README.md", "docs/DECISIONS.md", "docs/READERS.md"] {
+    for document in DOCUMENTS {
         for name in quoted(document) {
             let parts: Vec<&str> = name.split('/').collect();
             if parts.len() >= 3 && is_crate(parts[0]) && ["specs", "proofs", "src", "must-fail"].contains(&parts[1]) {
@@ -59,24 +62,82 @@ fn definitions() {
     assert!(count > 80);
 }
 
-/// `crate::a, b` are functions of `crates/crate/src/lib.rt`.
+/// The files of `specs/` that a file of `specs/` uses, as `crate/File`. `Code` says what the code's types mean, and a
+/// declared type is the code's own: these stand beside the code.
+fn used(text: &str) -> Vec<String> {
+    let mut files = Vec::new();
+    for line in text.lines().filter_map(|line| line.strip_prefix("use Rattle·")) {
+        let layer = line.split(['·', '.']).next().unwrap();
+        let path = line.replacen("·specs", "", 1);
+        let file = path.split('.').find(|part| part.starts_with(|first: char| first.is_ascii_uppercase())).unwrap();
+        if !line.contains(".declared.") {
+            files.push(format!("{layer}/{file}"));
+        }
+    }
+    files
+}
+
+/// In docs/READERS.md, "What to open, in this order", each file comes after the files that it uses, and no definition of
+/// the families is left out.
+#[test]
+fn reading_order() {
+    let document = std::fs::read_to_string(root().join("docs/READERS.md")).unwrap();
+    let start = document.find("## What to open, in this order").unwrap();
+    let section = &document[start..start + document[start..].find("### The code").unwrap()];
+    let mut read = Vec::new();
+    for row in section.lines().filter(|line| line.starts_with("| `")) {
+        for quote in row.split('|').nth(1).unwrap().split('`').skip(1).step_by(2) {
+            let Some((layer, file)) = quote.split_once('/').filter(|(layer, _)| is_crate(layer)) else { continue };
+            let path = root().join("crates").join(layer).join("specs").join(file).with_extension("antt");
+            let text = std::fs::read_to_string(&path).unwrap_or_else(|_| panic!("docs/READERS.md: {quote}"));
+            for used in used(&text) {
+                assert!(read.contains(&used), "docs/READERS.md: {quote} uses {used}, which is not read before it");
+            }
+            read.push(quote.to_string());
+        }
+    }
+    for layer in ["base", "word", "text", "source", "record", "machine", "compile", "fitting", "print"] {
+        for entry in std::fs::read_dir(root().join("crates").join(layer).join("specs")).unwrap() {
+            let name = entry.unwrap().path().file_stem().unwrap().to_str().unwrap().to_string();
+            let beside_code = ["Lib", "Code", "Buffer"].contains(&name.as_str());
+            assert!(beside_code || read.contains(&format!("{layer}/{name}")), "docs/READERS.md: {layer}/{name}");
+        }
+    }
+}
+
+/// The source of a crate.
+fn source(layer: &str) -> String {
+    let folder = root().join("crates").join(layer).join("src");
+    std::fs::read_to_string(folder.join("lib.rt")).or_else(|_| std::fs::read_to_string(folder.join("main.rt"))).unwrap()
+}
+
+/// `crate::a, b` are functions or constants of that crate, `Type::a` those of an `impl` in some crate.
 #[test]
 fn functions() {
+    let crates: Vec<String> = std::fs::read_dir(root().join("crates"))
+        .unwrap()
+        .map(|layer| layer.unwrap().file_name().into_string().unwrap())
+        .collect();
     let mut count = 0;
-    for document in ["README.md", "docs/DECISIONS.md", "docs/READERS.md"] {
+    for document in DOCUMENTS {
         for quote in quoted(document) {
-            let Some((layer, names)) = quote.split_once("::") else { continue };
-            if !is_crate(layer) {
+            let Some((owner, names)) = quote.split_once("::") else { continue };
+            let text = if is_crate(owner) {
+                source(owner)
+            } else if owner.starts_with(|first: char| first.is_ascii_uppercase()) {
+                let block = format!("impl {owner} {{");
+                crates.iter().map(|layer| source(layer)).filter(|text| text.contains(&block)).collect()
+            } else {
                 continue;
-            }
-            let text = std::fs::read_to_string(root().join("crates").join(layer).join("src/lib.rt")).unwrap();
+            };
             for name in names.split(", ") {
-                assert!(text.contains(&format!("fn {name}(")), "{document}: {layer}::{name}");
+                let there = [format!("fn {name}("), format!("const {name}:")].iter().any(|item| text.contains(item));
+                assert!(there, "{document}: {owner}::{name}");
                 count += 1;
             }
         }
     }
-    assert!(count > 15);
+    assert!(count > 30);
 }
 
 /// Every must-fail edit is named in docs/READERS.md.

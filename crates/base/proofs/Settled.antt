@@ -8,7 +8,7 @@ use Rattle.base.specs.Answers.{Answer, gives, refused, unless_refuse_at_
 use Rattle.base.proofs.Answers.{gives-one}
 
 -- What is refused is not given.
-not-both : {A P : Type 0} {a : A} {number place : ℕ} → refused number place ≡ gives a → P
+pub not-both : {A P : Type 0} {a : A} {number place : ℕ} → refused number place ≡ gives a → P
 not-both e = let no : _≡_ {A = ℕ} 0 1 = cc in absurd (omega arith)
 
 -- ---- Tests that gave something were passed

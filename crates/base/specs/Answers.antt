@@ -7,6 +7,10 @@ pub data Answer (A : Type 0) : Type 0 where
   gives : A → Answer A
   refused : ℕ → ℕ → Answer A
 
+-- A refusal by itself
+pub data Refusal : Type 0 where
+  refusal : ℕ → ℕ → Refusal
+
 -- A test of a call: where it fails, the call declines with this number at this place
 infixr 5 unless_refuse_at_else_
 abbrev pub unless_refuse_at_else_ : {A : Type 0} → Bool → ℕ → ℕ → Answer A → Answer A

@@ -1,4 +1,5 @@
 pub mod Acts
 pub mod Ends
 pub mod Answers
-pub mod Runs
+pub mod Rows
+pub mod Code

@@ -1,7 +1,7 @@
 -- The calls where their tests pass: what the tests give, and what each call then gives and leaves; and the other way,
 -- what was found where the tests gave a command. The tests are true one after the other; what reading gives is within the
 -- limits of texts.
-use mathlib.Core.Path.{_≡_, _∙_, ap}
+use mathlib.Core.Path.{_≡_, sym, _∙_, ap}
 use mathlib.Core.Bool.{true}
 use Prim.Native.Nat.{ℕ, _*_, _≤_}
 use native.Mathlib.Omega.{arith}
@@ -12,16 +12,17 @@ use lib.Seq.{take-at}
 use borrow.Author.Tests.{eq-eqb, le-leb, leb-true}
 use Rattle.base.specs.Answers.{Answer, gives, unless_refuse_at_else_, and-then, settle}
 use Rattle.base.proofs.Answers.{gives-one}
-use Rattle.base.proofs.Settled.{unless-passed, needed}
+use Rattle.base.proofs.Settled.{unless-passed, needed, gave}
 use Rattle.text.specs.Syntax.{Command}
 use Rattle.text.specs.Encoding.{Bytes, Valid}
 use Rattle.text.specs.Reading.{read-text}
 use Rattle.text.specs.Sizes.{records, cells, sizes}
+use Rattle.text.specs.declared.Sizes.{Sizes}
 use Rattle.text.proofs.Accepted.{accepted}
-use Rattle.text.proofs.Sizes.{short}
+use Rattle.text.proofs.Limits.{short}
 use Rattle.record.specs.Records.{MachineCode}
-use Rattle.record.specs.Bytes.{assembly-kind, machine-kind, code-bytes, over, whole, records-of}
-use Rattle.record.proofs.Bytes.{five-bytes}
+use Rattle.record.specs.Bytes.{assembly-kind, machine-kind, code-bytes, over, whole-records, records-of}
+use Rattle.record.proofs.Bytes.{five-bytes, length-over}
 use Rattle.compile.specs.Calls.{assemble-tests, assemble, compile-tests, machine-bytes, Compiled, compile}
 use Rattle.compile.specs.Calls.{go-back-tests, go-back}
 use Rattle.compile.specs.Compilation.{ccomp}
@@ -97,9 +98,40 @@ machine-length c =
 pub taken-over : (new old : List ℕ) (n : ℕ) → length new ≡ n → take n (over new old) ≡ new
 taken-over new old n e = take-at new (drop (length new) old) n e
 
+-- ---- What was written is within the output as it is left
+
+pub assembly-length : (c : Command) → length (code-bytes assembly-kind (ccomp c)) ≡ 5 * records c
+assembly-length c = five-bytes _ assembly-kind (ccomp c) ∙ ap (λ n. 5 * n) (record-count c)
+
+over-room : (new old now : List ℕ) (n : ℕ) → length new ≡ n → n ≤ length old → now ≡ over new old → n ≤ length now
+over-room new old now n e room f =
+    omega (arith, room, ap (λ (l : List ℕ). length l) f, length-over new old (omega arith))
+
+pub assemble-room : (text out : List ℕ) {out′ : List ℕ} {x : Answer Sizes} {z : Sizes} → (x, out′) ≡ assemble text out
+    → x ≡ gives z → 5 * z .records ≤ length out′
+unfolding assemble
+assemble-room text out {out′ = out′} e f =
+    let g = gave (assemble-tests text out) sizes _ _ ((λ i. (sym f i, out′)) ∙ e) in
+    let c = g .value in
+    let left =
+    over-room (code-bytes assembly-kind (ccomp c)) out out′ (5 * records c) (assembly-length c)
+    (assemble-passed text out (g .passed) .1) (g .leaves) in
+    omega (arith, left, ap (λ (z : Sizes). z .records) (g .tells))
+
+pub compile-room : (text : List ℕ) (l : Compiled) {l′ : Compiled} {x : Answer Sizes} {z : Sizes}
+    → (x, l′) ≡ compile text l → x ≡ gives z → 5 * z .records ≤ length (l′ .code)
+unfolding compile
+compile-room text l {l′ = l′} e f =
+    let g = gave (compile-tests text (l .code) (l .table)) sizes _ _ ((λ i. (sym f i, l′)) ∙ e) in
+    let c = g .value in
+    let left =
+    over-room (machine-bytes c) (l .code) (l′ .code) (5 * records c) (machine-length c)
+    (compile-passed text (l .code) (l .table) (g .passed) .1) (ap (λ (l : Compiled). l .code) (g .leaves)) in
+    omega (arith, left, ap (λ (z : Sizes). z .records) (g .tells))
+
 -- ---- go_back
 
-pub go-back-gives : (code t out : List ℕ) {P : MachineCode} → whole code ≡ true → length t ≡ 64 → is-table t ≡ true
+pub go-back-gives : (code t out : List ℕ) {P : MachineCode} → whole-records code ≡ true → length t ≡ 64 → is-table t ≡ true
     → records-of (machine-kind (named-in t)) code ≡ gives P → 5 * length P ≤ length out
     → go-back-tests code t out ≡ gives P
 unfolding go-back-tests and-then

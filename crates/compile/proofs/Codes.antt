@@ -15,7 +15,7 @@ use borrow.Author.Tests.{le-leb}
 use Rattle.text.specs.Syntax.{Command}
 use Rattle.text.specs.Encoding.{Valid}
 use Rattle.text.specs.Sizes.{cells}
-use Rattle.text.proofs.Sizes.{few}
+use Rattle.text.proofs.Limits.{few}
 use Rattle.record.specs.Records.{Record, LOADI, LOAD, ADD, STORE, JMP, JMPLESS, JMPGE, AssemblyCode, named, rename}
 use Rattle.record.specs.Records.{address}
 use Rattle.record.specs.Bytes.{Kind, assembly-kind, machine-kind}

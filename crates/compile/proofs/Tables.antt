@@ -1,5 +1,5 @@
 -- The table of a command holds 1 to n once each, n being the number of variables that the command names (Claims:
--- Tables, Named). How often a number stands in the table is how many variables below 64 have it as their address. The
+-- Tables, NamedVariables). How often a number stands in the table is how many variables below 64 have it as their address. The
 -- variables that records name are below 64 and none stands among them twice: each takes one of the 64 and one address.
 use mathlib.Core.Path.{_≡_, refl, sym, _∙_, ap}
 use Prim.Native.Nat.{ℕ, zero, suc, _+_, _≤_, _<_}
@@ -17,7 +17,7 @@ use Rattle.text.specs.Encoding.{Valid}
 use Rattle.text.specs.Sizes.{how-many, cells, records}
 use Rattle.record.specs.Records.{AssemblyCode, named}
 use Rattle.record.specs.declared.Variable.{Variable}
-use Rattle.compile.specs.Claims.{Tables, Named}
+use Rattle.compile.specs.Claims.{Tables, NamedVariables}
 use Rattle.compile.specs.Compilation.{ccomp}
 use Rattle.compile.specs.Table.{member, once, vars, addr-of, entries, times, named-in, once-each, is-table}
 use Rattle.compile.proofs.Entries.{address-most, address-none, length-entries}
@@ -147,7 +147,7 @@ module _ (c : Command) (h : Valid c) where
   named-command : length (vars (ccomp c)) ≡ cells c
   named-command = sym (members (vars (ccomp c)) sound-command) ∙ (λ j. how-many (λ w. names-command w c j) 64)
 
-pub named-variables : Named
+pub named-variables : NamedVariables
 named-variables c h =
     record {
       in-records = named-command c h;

@@ -6,9 +6,10 @@ use lib.ListN.{length}
 use Rattle.base.specs.Answers.{Answer, gives, unless_refuse_at_else_, and-then, settle}
 use Rattle.text.specs.Syntax.{Command}
 use Rattle.text.specs.Reading.{read-text}
-use Rattle.text.specs.Sizes.{records, cells, Sizes, sizes}
+use Rattle.text.specs.Sizes.{records, cells, sizes}
+use Rattle.text.specs.declared.Sizes.{Sizes}
 use Rattle.record.specs.Records.{MachineCode}
-use Rattle.record.specs.Bytes.{assembly-kind, machine-kind, code-bytes, over, whole, records-of}
+use Rattle.record.specs.Bytes.{assembly-kind, machine-kind, code-bytes, over, whole-records, records-of}
 use Rattle.compile.specs.Compilation.{ccomp}
 use Rattle.compile.specs.Table.{to-m-prog, table, named-in, is-table, to-assembly}
 
@@ -55,7 +56,7 @@ compile text lent =
 -- Refusals: 9, 8, 12, 10, 7. n is the table's
 unfoldable pub go-back-tests : List ℕ → List ℕ → List ℕ → Answer MachineCode
 go-back-tests code t out =
-    unless whole code refuse 9 at 0 else
+    unless whole-records code refuse 9 at 0 else
     unless eqb (length t) 64 refuse 8 at 0 else
     unless is-table t refuse 12 at 0 else
     and-then (records-of (machine-kind (named-in t)) code) (λ P.

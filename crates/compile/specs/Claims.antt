@@ -24,12 +24,12 @@ abbrev pub RecordCount : Type 0
 RecordCount = (c : Command) → length (ccomp c) ≡ records c
 
 -- The n that reading gives is the number of variables that the records name, and the n of the table.
-pub record NamedVariables (c : Command) : Type 0 where
+pub record VariablesNamed (c : Command) : Type 0 where
   pub in-records : length (vars (ccomp c)) ≡ cells c
   pub in-table : named-in (table (ccomp c)) ≡ cells c
 
-abbrev pub Named : Type 0
-Named = (c : Command) → Valid c → NamedVariables c
+abbrev pub NamedVariables : Type 0
+NamedVariables = (c : Command) → Valid c → VariablesNamed c
 
 -- ---- The table and the code of a command pass the tests of the calls that read them
 

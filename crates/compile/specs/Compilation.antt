@@ -28,7 +28,8 @@ bcomp (Less a b) flag i = acomp a ++ (acomp b ++ ((if flag then JMPLESS i else J
 abbrev pub test : Condition → AssemblyCode → AssemblyCode
 test b c = bcomp b false (pos (suc (length c)))
 
--- ccomp leaves the stack as it was. A jump counts from the record after it
+-- ccomp leaves the stack as it was. A jump counts from the record after it. WHILE's jump back is 001's
+-- JMP (− (size cb + size cc + 1)): negsuc k is −(k + 1)
 unfoldable pub ccomp : Command → AssemblyCode
 ccomp SKIP = []
 ccomp (v := a) = acomp a ++ (STORE (variable v) ∷ [])

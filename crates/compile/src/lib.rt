@@ -1,4 +1,4 @@
 // Compilation, addresses, and the way back.
 
 // The bytes of a table: an address for each variable.
-pub const TABLE_BYTES: usize = 64;
+pub const TABLE_BYTES: usize = base::VARIABLES;

@@ -18,14 +18,14 @@ use Rattle.text.specs.Reading.{read-text}
 use Rattle.text.specs.Encoding.{Bytes, Within}
 use Rattle.text.specs.Sizes.{depth, cells}
 use Rattle.text.proofs.Accepted.{accepted}
-use Rattle.text.proofs.Sizes.{short, shallow}
+use Rattle.text.proofs.Limits.{short, shallow}
 use Rattle.source.specs.Rules.{Early, Store, Outcomes, state, exec, end-of, result-of, run-rules}
 use Rattle.source.specs.Calls.{run-source}
 use Rattle.source.proofs.Calls.{source-runs}
 use Rattle.record.specs.Bytes.{assembly-kind, code-bytes}
 use Rattle.record.proofs.Written.{whole-written, written}
 use Rattle.machine.specs.Machine.{Machine, fresh, run}
-use Rattle.machine.specs.Memories.{Assembly, assembly, cells as machine-cells}
+use Rattle.machine.specs.Memories.{Assembly, assembly, machine-cells}
 use Rattle.machine.specs.Calls.{machine-run, assembly-tests, assembly-run, run-assembly}
 use Rattle.machine.proofs.Inside.{inside}
 use Rattle.compile.specs.Compilation.{ccomp}
@@ -34,7 +34,7 @@ use Rattle.compile.specs.Calls.{Compiled}
 use Rattle.compile.proofs.Sizes.{record-count}
 use Rattle.compile.proofs.Codes.{codes}
 use Rattle.fitting.specs.Loading.{loaded}
-use Rattle.fitting.specs.Calls.{four-calls, Lent}
+use Rattle.fitting.specs.Rows.{four-calls, Lent}
 use Rattle.fitting.specs.Simulation.{seen}
 use Rattle.fitting.specs.Demand3.{Ready, MachineEnds, RulesEnd, Alike, Demand3, Fitted, AssemblyFitted}
 use Rattle.fitting.specs.Demand3.{RowsFitted}

@@ -13,7 +13,7 @@ use Rattle.machine.proofs.Renaming.{through}
 use Rattle.machine.specs.Machine.{Memory}
 use Rattle.record.specs.Records.{address}
 use Rattle.record.specs.declared.Variable.{Variable}
-use Rattle.machine.specs.Memories.{cells}
+use Rattle.machine.specs.Memories.{machine-cells}
 use Rattle.compile.proofs.Entries.{Distinct}
 use Rattle.fitting.specs.Simulation.{Laws}
 use Rattle.fitting.specs.Loading.{put, fill, loaded, got, read-back}
@@ -32,7 +32,7 @@ back-at (a ∷ t) D [] m v l = absurd (omega arith)
 back-at (a ∷ t) D (x ∷ s) m zero l = refl
 back-at (a ∷ t) D (x ∷ s) m (suc v) l = back-at t D s m v (omega arith)
 
-got-at : (D a : ℕ) (m : List ℤ) (x : ℤ) → 0 < a → got D a m x ≡ getD m (D + a) (pos 0)
+pub got-at : (D a : ℕ) (m : List ℤ) (x : ℤ) → 0 < a → got D a m x ≡ getD m (D + a) (pos 0)
 unfolding got
 got-at D zero m x l = absurd (omega arith)
 got-at D (suc a) m x l = refl
@@ -136,7 +136,7 @@ module _ (D n : ℕ) (t : List ℕ) (d : Distinct t) (small : (v : ℕ) → getD
 
   -- the memory that a variable's record is run on, in terms of addresses
   abbrev pub addressed : Memory (List ℤ) Variable
-  addressed = through (λ v. address (f (v .0))) (cells D)
+  addressed = through (λ v. address (f (v .0))) (machine-cells D)
 
   pub cells-laws : Laws D addressed (read-back t D s) (λ m. length m ≡ D + 1 + n) Placed
   cells-laws = record {

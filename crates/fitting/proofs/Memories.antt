@@ -13,7 +13,7 @@ use Rattle.record.specs.Records.{AssemblyCode, address}
 use Rattle.record.specs.declared.Variable.{Variable}
 use Rattle.record.specs.declared.Address.{Address}
 use Rattle.machine.specs.Machine.{fresh}
-use Rattle.machine.specs.Memories.{Assembly, assembly, cells as machine-cells}
+use Rattle.machine.specs.Memories.{Assembly, assembly, machine-cells}
 use Rattle.machine.proofs.Renaming.{run-map}
 use Rattle.compile.specs.Compilation.{ccomp}
 use Rattle.compile.specs.Table.{vars, addr-of, table}

@@ -1,6 +1,6 @@
 -- The four calls in a row, of a command within the limits and buffers of the right lengths: none declines, and what
 -- they give and leave is the run of the machine code on the loaded memory, read back.
-use mathlib.Core.Path.{_≡_, _∙_, ap}
+use mathlib.Core.Path.{_≡_, refl, sym, _∙_, ap}
 use Prim.Native.Nat.{ℕ, _+_, _*_, _≤_}
 use native.Mathlib.Omega.{arith}
 use mathlib.Core.Bool.{true}
@@ -8,31 +8,34 @@ use mathlib.Core.List.{List}
 use lib.IntN.{ℤ}
 use lib.ListN.{length, take, length-set}
 use borrow.Author.Tests.{eq-eqb, le-leb}
+use Rattle.base.specs.Acts.{give}
 use Rattle.base.specs.Answers.{Answer, gives, and-then, settle}
+use Rattle.base.specs.Rows.{answered}
 use Rattle.base.specs.Ends.{Result, Ran, report}
+use Rattle.base.proofs.Rows.{goes-on}
 use Rattle.word.specs.Sums.{sum32}
 use Rattle.text.specs.Syntax.{Command}
 use Rattle.text.specs.Reading.{read-text}
 use Rattle.text.specs.Encoding.{Within}
-use Rattle.text.specs.Sizes.{records, depth, cells, Sizes, sizes}
-use Rattle.text.proofs.Sizes.{short, shallow, few}
+use Rattle.text.specs.Sizes.{records, depth, cells}
+use Rattle.text.proofs.Limits.{short, shallow, few}
 use Rattle.source.specs.Rules.{Store}
 use Rattle.record.specs.Records.{MachineCode}
 use Rattle.record.specs.Bytes.{machine-kind, over}
 use Rattle.record.proofs.Written.{whole-written, written}
 use Rattle.machine.specs.Machine.{Machine}
-use Rattle.machine.specs.Memories.{cells as machine-cells}
+use Rattle.machine.specs.Memories.{machine-cells}
 use Rattle.machine.specs.Calls.{memory-fits, machine-tests, machine-run, run-machine}
 use Rattle.machine.proofs.Inside.{kept}
 use Rattle.compile.specs.Compilation.{ccomp}
 use Rattle.compile.specs.Table.{to-m-prog, table}
-use Rattle.compile.specs.Calls.{machine-bytes, Compiled, compile}
+use Rattle.compile.specs.Calls.{machine-bytes, Compiled}
 use Rattle.compile.proofs.Tables.{tables, named-variables}
 use Rattle.compile.proofs.Codes.{codes}
 use Rattle.compile.proofs.Calls.{compiled, machine-count, machine-length, taken-over}
 use Rattle.fitting.specs.Loading.{loaded, read-back}
-use Rattle.fitting.specs.Calls.{pod-tests, load, read-back-call, four-calls, Lent, after-reading, after-running}
-use Rattle.fitting.specs.Calls.{after-loading, after-compiling, fit}
+use Rattle.fitting.specs.Calls.{pod-tests, load, read-back-call}
+use Rattle.fitting.specs.Rows.{Lent, buffers, fit, four-calls}
 use Rattle.fitting.specs.Demand3.{Ready}
 use Rattle.fitting.proofs.Loading.{length-loaded}
 
@@ -89,6 +92,14 @@ module _ (text : List ℕ) (c : Command) (read : read-text text ≡ gives c) (w 
     fits ready-memory (length-loaded t D n store),
   )
 
+  runs-written :
+      run-machine (take (5 * records c) (over (machine-bytes c) (lent .code))) ready-memory D n budget
+      ≡ (gives (report budget ran), ran .leaves .memory)
+  runs-written =
+      ap (λ code. run-machine code ready-memory D n budget)
+      (taken-over (machine-bytes c) (lent .code) (5 * records c) (machine-length c))
+      ∙ runs
+
   -- a run keeps the memory's length
   pub same-length : length (ran .leaves .memory) ≡ D + 1 + n
   same-length =
@@ -101,53 +112,23 @@ module _ (text : List ℕ) (c : Command) (read : read-text text ≡ gives c) (w 
   reads = simp (pod-tested (ran .leaves .memory) same-length)
 
   -- ---- in a row
-  abbrev after-run : Sizes → List ℕ → Answer Ran × List ℤ → Answer (Ran × Store)
-  after-run z t running =
-      and-then (running .0) (λ ran.
-      let reading = read-back-call t (running .1) (z .depth) store in
-      and-then (reading .0) (λ _. gives (ran, reading .1)))
+  abbrev with-memory : List ℤ → Lent
+  with-memory m = buffers (over (machine-bytes c) (lent .code)) t m store
 
-  abbrev after-load : Sizes → Compiled → Answer ℕ × List ℤ → Answer (Ran × Store)
-  after-load z left loading =
-      and-then (loading .0) (λ _.
-      after-run z (left .table)
-      (run-machine (take (5 * z .records) (left .code)) (loading .1) (z .depth) (z .cells) budget))
+  abbrev left : Lent
+  left = buffers (over (machine-bytes c) (lent .code)) t (ran .leaves .memory) (read-back t D store (ran .leaves .memory))
 
-  abbrev after-compile : Answer Sizes × Compiled → Answer (Ran × Store)
-  after-compile x = and-then (x .0) (λ z. after-load z (x .1) (load (x .1 .table) store (z .depth) memory))
+  pub whole-row : fit text (buffers (lent .code) (lent .table) memory store) budget ≡ (gives (report budget ran), left)
+  unfolding fit give answered
+  whole-row =
+      sym
+      (goes-on (λ l. buffers (l .code) (l .table) memory store) _
+      (sym (compiled text lent read (ready .table-bytes) (ready .output))) refl
+      (goes-on with-memory _ (sym loads) refl
+      (goes-on with-memory _ (sym runs-written) refl
+      (goes-on (buffers (over (machine-bytes c) (lent .code)) t (ran .leaves .memory)) _ (sym reads) refl refl))))
 
   pub in-a-row : four-calls text lent memory store budget
       ≡ gives (report budget ran, read-back t D store (ran .leaves .memory))
   unfolding four-calls and-then
-  in-a-row =
-      ap after-compile (compiled text lent read (ready .table-bytes) (ready .output))
-      ∙ ap (after-load (sizes c) (record { code = over (machine-bytes c) (lent .code); table = t })) loads
-      ∙ ap (λ code. after-run (sizes c) t (run-machine code ready-memory D n budget))
-      (taken-over (machine-bytes c) (lent .code) (5 * records c) (machine-length c))
-      ∙ ap (after-run (sizes c) t) runs
-      ∙ ap (λ (reading : Answer ℕ × Store). and-then (reading .0) (λ _. gives (report budget ran, reading .1))) reads
-
-  -- ---- and with every lent buffer
-  abbrev lent-all : Lent
-  lent-all = record { code = lent .code; table = lent .table; memory = memory; store = store }
-
-  abbrev left-all : Lent
-  left-all = record {
-    code = over (machine-bytes c) (lent .code);
-    table = t;
-    memory = ran .leaves .memory;
-    store = read-back t D store (ran .leaves .memory);
-  }
-
-  abbrev with-memory : List ℤ → Lent
-  with-memory m = record { code = over (machine-bytes c) (lent .code); table = t; memory = m; store = store }
-
-  pub whole-row : fit text lent-all budget ≡ (gives (report budget ran), left-all)
-  unfolding fit after-compiling after-loading after-running after-reading
-  whole-row =
-      ap (after-compiling lent-all budget) (compiled text lent read (ready .table-bytes) (ready .output))
-      ∙ ap (after-loading (with-memory memory) (sizes c) budget) loads
-      ∙ ap (λ code. after-running (with-memory ready-memory) (sizes c) (run-machine code ready-memory D n budget))
-      (taken-over (machine-bytes c) (lent .code) (5 * records c) (machine-length c))
-      ∙ ap (after-running (with-memory ready-memory) (sizes c)) runs
-      ∙ ap (after-reading (with-memory (ran .leaves .memory)) (report budget ran)) reads
+  in-a-row = ap (λ (r : Answer Ran × Lent). and-then (r .0) (λ ran. gives (ran, r .1 .store))) whole-row

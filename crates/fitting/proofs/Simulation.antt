@@ -2,7 +2,7 @@
 -- The idea: K is any rest of the source run, into results. A part is simulated when, for every K that the machine
 -- goes on with after the part's records, the machine from the part's first record gives what the part and K give.
 use mathlib.Core.Path.{_≡_, refl, sym, _∙_, ap, subst}
-use Prim.Native.Nat.{ℕ, zero, suc, _+_, _≤_, _<_, _-_, max}
+use Prim.Native.Nat.{ℕ, zero, suc, _+_, _≤_, _<_, max}
 use native.Mathlib.Omega.{arith}
 use mathlib.Core.Bool.{Bool, true, false, not, Bool·beq}
 use mathlib.Core.List.{[], _∷_, _++_}
@@ -22,11 +22,12 @@ use Rattle.source.specs.Rules.{State, Store, state, Rule, Outcomes, charge, tic
 use Rattle.source.specs.Rules.{truth, loop, exec, end-of, result-of}
 use Rattle.record.specs.Records.{Record, LOADI, LOAD, ADD, STORE, JMP, JMPLESS, JMPGE, AssemblyCode, variable}
 use Rattle.record.specs.declared.Variable.{Variable as VariableNumber}
+use Rattle.record.proofs.Decoding.{none-due}
 use Rattle.machine.specs.Machine.{Memory, Machine, at, taken, pop, push, held}
 use Rattle.machine.specs.Machine.{keep, in-range, next, act, after, run-at, run}
 use Rattle.machine.proofs.Effects.{push-next, jump-on, jump-back, compare-on}
 use Rattle.compile.specs.Compilation.{acomp, bcomp, test, ccomp}
-use Rattle.fitting.proofs.Segment.{Seg, seg-split, seg-length, seg-whole, past-end}
+use Rattle.fitting.proofs.Segment.{Seg, seg-split, seg-length, seg-whole}
 use Rattle.fitting.specs.Simulation.{seen, Laws, Names, Simulated}
 
 -- a rest of the source run
@@ -345,7 +346,7 @@ pub simulated : (sum : SumRule) → Simulated sum
 simulated sum M D o view Good Named L c W d n m G =
     simC sum D o P view Good Named L W c 0 (length P) (seg-whole P) d (omega arith) m n G
     (λ s. result End.done (s .left) (s .store))
-    (λ m′ n′ l G′. at-end sum D o P view Good Named L W (length P) 0 m′ (past-end P) n′)
+    (λ m′ n′ l G′. at-end sum D o P view Good Named L W (length P) 0 m′ (none-due P (length P) refl) n′)
     ∙ onto-result (exec sum c (state n (view m)))
   where
     P : AssemblyCode

@@ -1,10 +1,11 @@
--- Profiles A to K (document 01, "Profiles to hold it to"), as one table.
+-- Profiles A to K (document 01, "Profiles to hold it to"), as one table; and where load and read_back decline ("When a
+-- call declines").
 use mathlib.Core.Path.{_≡_}
 use Prim.Native.Nat.{ℕ, _+_, _*_}
 use mathlib.Core.List.{List, [], _∷_, map}
 use lib.IntN.{ℤ, pos, negsuc}
-use lib.ListN.{length, getD, replicate, take}
-use Rattle.base.specs.Answers.{Answer, gives, and-then}
+use lib.ListN.{getD, replicate, take}
+use Rattle.base.specs.Answers.{Answer, gives, refused, and-then}
 use Rattle.base.specs.Ends.{End, done, spent, fault, out-of-range, Ran}
 use Rattle.text.specs.Syntax.{Command}
 use Rattle.text.specs.Reading.{read-text}
@@ -13,13 +14,16 @@ use Rattle.text.specs.Cases.{A·text, B·text, C·text, D·text, E·text, F·te
 use Rattle.text.specs.Cases.{K·text}
 use Rattle.source.specs.Rules.{Store}
 use Rattle.source.specs.Calls.{run-source}
-use Rattle.source.specs.Cases.{zeros}
+use Rattle.source.specs.Cases.{zeros, sevens}
 use Rattle.record.specs.Records.{AssemblyCode, LOADI, LOAD, ADD, STORE, JMP, JMPLESS, JMPGE, variable}
+use Rattle.machine.specs.Cases.{memory}
 use Rattle.compile.specs.Compilation.{ccomp}
 use Rattle.compile.specs.Table.{table}
 use Rattle.compile.specs.Calls.{Compiled}
+use Rattle.compile.specs.Cases.{two-ones}
 use Rattle.fitting.specs.Loading.{loaded}
-use Rattle.fitting.specs.Calls.{four-calls}
+use Rattle.fitting.specs.Calls.{load, read-back-call}
+use Rattle.fitting.specs.Rows.{four-calls}
 
 -- A text and a budget; the assembly records; D; n; the addresses of x0, x1 and x2; and, starting from zeros, the end,
 -- the count and x0
@@ -131,13 +135,53 @@ Profiles =
     (map (λ k. and-then (read-text (k .text)) (by-rules k)) cases ≡ map gives cases)
     × (map (λ k. and-then (read-text (k .text)) (by-machine k)) cases ≡ map gives cases)
 
--- J is spent at every budget.
-abbrev pub Forever : Type 0
-Forever = (budget : ℕ) (s : Store) → length s ≡ 64
-    → run-source J·text s budget ≡ (gives (record { end = spent; count = budget }), s)
-
 -- Profile I's table and a store of 7, 8, 9 and zeros, loaded with D 1: the stack's cell, address 0, then x2, x1, x0.
 abbrev pub MemoryOfI : Type 0
 MemoryOfI =
     loaded (3 ∷ 2 ∷ 1 ∷ replicate 61 0) 1 3 (pos 7 ∷ pos 8 ∷ pos 9 ∷ replicate 61 (pos 0))
     ≡ pos 0 ∷ pos 0 ∷ pos 9 ∷ pos 8 ∷ pos 7 ∷ []
+
+-- ---- Where load and read_back decline, both alike: 8, 12, 11
+
+-- x0 has address 1, and no other variable has one: n is 1
+abbrev pub one-entry : List ℕ
+one-entry = 1 ∷ replicate 63 0
+
+-- load, of a table, a store, D and a memory: number and place, and the memory as it was. Where there are two faults,
+-- the first in order is given.
+pub record LoadDeclines : Type 0 where
+  -- 8: a store of 63 cells; a table of 63 bytes
+  pub eight-store : load one-entry (sevens 63) 2 (memory 4) ≡ (refused 8 0, memory 4)
+  pub eight-table : load (1 ∷ replicate 62 0) (sevens 64) 2 (memory 4) ≡ (refused 8 0, memory 4)
+  -- 12: two entries 1
+  pub twelve : load (two-ones 62) (sevens 64) 2 (memory 5) ≡ (refused 12 0, memory 5)
+  -- 11: D 2, n 1, 3 cells, and 5 cells; D 65
+  pub eleven : load one-entry (sevens 64) 2 (memory 3) ≡ (refused 11 0, memory 3)
+  pub eleven-longer : load one-entry (sevens 64) 2 (memory 5) ≡ (refused 11 0, memory 5)
+  pub eleven-D : load one-entry (sevens 64) 65 (memory 67) ≡ (refused 11 0, memory 67)
+  -- with 4 cells it loads: x0 at address 1, and 0 elsewhere
+  pub not-eleven : load one-entry (sevens 64) 2 (memory 4) ≡ (gives 1, pos 0 ∷ pos 0 ∷ pos 0 ∷ pos 7 ∷ [])
+  -- 8, and 12: a store of 63 cells, or a table of 63 bytes, and two entries 1
+  pub eight-twelve : load (two-ones 62) (sevens 63) 2 (memory 5) ≡ (refused 8 0, memory 5)
+  pub eight-twelve-table : load (two-ones 61) (sevens 64) 2 (memory 5) ≡ (refused 8 0, memory 5)
+  -- 12, and 11: two entries 1, and 3 cells
+  pub twelve-eleven : load (two-ones 62) (sevens 64) 2 (memory 3) ≡ (refused 12 0, memory 3)
+
+-- read_back, of a table, a memory, D and a store: number and place, and the store as it was.
+pub record ReadBackDeclines : Type 0 where
+  -- 8: a store of 63 cells; a table of 63 bytes
+  pub eight-store : read-back-call one-entry (memory 4) 2 (sevens 63) ≡ (refused 8 0, sevens 63)
+  pub eight-table : read-back-call (1 ∷ replicate 62 0) (memory 4) 2 (sevens 64) ≡ (refused 8 0, sevens 64)
+  -- 12: two entries 1
+  pub twelve : read-back-call (two-ones 62) (memory 5) 2 (sevens 64) ≡ (refused 12 0, sevens 64)
+  -- 11: D 2, n 1, 3 cells, and 5 cells; D 65
+  pub eleven : read-back-call one-entry (memory 3) 2 (sevens 64) ≡ (refused 11 0, sevens 64)
+  pub eleven-longer : read-back-call one-entry (memory 5) 2 (sevens 64) ≡ (refused 11 0, sevens 64)
+  pub eleven-D : read-back-call one-entry (memory 67) 65 (sevens 64) ≡ (refused 11 0, sevens 64)
+  -- with 4 cells it reads back: x0 is what address 1 holds, and every other variable is as it was
+  pub not-eleven : read-back-call one-entry (memory 4) 2 (sevens 64) ≡ (gives 1, pos 8 ∷ sevens 63)
+  -- 8, and 12: a store of 63 cells, or a table of 63 bytes, and two entries 1
+  pub eight-twelve : read-back-call (two-ones 62) (memory 5) 2 (sevens 63) ≡ (refused 8 0, sevens 63)
+  pub eight-twelve-table : read-back-call (two-ones 61) (memory 5) 2 (sevens 64) ≡ (refused 8 0, sevens 64)
+  -- 12, and 11: two entries 1, and 3 cells
+  pub twelve-eleven : read-back-call (two-ones 62) (memory 3) 2 (sevens 64) ≡ (refused 12 0, sevens 64)

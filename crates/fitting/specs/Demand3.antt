@@ -23,7 +23,7 @@ use Rattle.compile.specs.Compilation.{ccomp}
 use Rattle.compile.specs.Table.{to-m-prog, table}
 use Rattle.compile.specs.Calls.{machine-bytes, Compiled}
 use Rattle.fitting.specs.Loading.{loaded}
-use Rattle.fitting.specs.Calls.{four-calls, Lent, fit}
+use Rattle.fitting.specs.Rows.{four-calls, Lent, fit}
 
 -- "Lengths as this paper asks"
 pub record Ready (c : Command) (lent : Compiled) (memory : List ℤ) (store : Store) : Type 0 where
@@ -58,7 +58,9 @@ pub record Alike (text : List ℕ) (c : Command) (lent : Compiled) (memory : Lis
       × MachineEnds text lent memory store budget (fault Fault.out-of-range) k t)
       ⊎ ((t : Store) × MachineEnds text lent memory store budget End.spent budget t
       × RulesEnd text store budget End.spent budget t)
-  -- "its stack never passes the depth D worked out from the text": after any number of steps
+  -- "its stack never passes the depth D worked out from the text": after any number of steps. Any code stays at D or
+  -- below, since a push at D would end full (machine/specs/Machine, push); what this code adds is `one-of-three`: no run of
+  -- it ends full, so no push at D is ever tried
   pub stack : (steps : ℕ)
       → machine-run (to-m-prog (ccomp c)) (loaded (table (ccomp c)) (depth c) (cells c) store) (depth c) steps
       .leaves .size ≤ depth c

@@ -15,7 +15,7 @@ use Rattle.source.specs.Rules.{Store, run-rules}
 use Rattle.record.specs.Records.{Record, AssemblyCode, named}
 use Rattle.record.specs.declared.Variable.{Variable}
 use Rattle.machine.specs.Machine.{Memory, Machine, fresh, run}
-use Rattle.machine.specs.Memories.{Assembly, assembly, cells as machine-cells}
+use Rattle.machine.specs.Memories.{Assembly, assembly, machine-cells}
 use Rattle.compile.specs.Compilation.{ccomp}
 use Rattle.compile.specs.Table.{to-m-prog, table}
 use Rattle.fitting.specs.Loading.{loaded, read-back}

@@ -1,4 +1,1 @@
-// Loading, running and reading back: the definitions and demand 3 stand in specs/.
-
-// The most cells of a memory: the stack, address 0, and the addresses 1 to 64.
-pub const MEMORY_CELLS: usize = 129;
+// Loading, running and reading back, calls in a row: the definitions and demand 3 stand in specs/.

@@ -1,99 +1,169 @@
--- The two run calls by what their tests find: a refusal, or the run of the records given.
-use mathlib.Core.Path.{_≡_, refl, ap, _∙_}
-use mathlib.Core.Bool.{Bool, true, false, _&&_}
+-- The two run calls by the answer of their tests: the answer from what each test finds; what was found, from the number
+-- of records given; what the call then gives and leaves, the refusal and its memory untouched or the records' run.
+use mathlib.Core.Path.{_≡_, refl, sym, _∙_, ap}
+use mathlib.Core.Bool.{Bool, true}
 use mathlib.Core.List.{List}
-use Prim.Native.Nat.{ℕ, _+_, _-_, _≤_}
-use native.Mathlib.Nat.{sub-zero}
+use Prim.Native.Nat.{ℕ, _+_, _*_, _≤_}
 use native.Mathlib.Omega.{arith}
 use borrow.Author.Tests.{leb-true, eqb-true}
 use lib.Dec.{eqb, leb}
 use lib.IntN.{ℤ}
 use lib.ListN.{length}
-use Rattle.base.specs.Answers.{Answer, gives, unless_refuse_at_else_, and-then, settle}
-use Rattle.base.specs.Ends.{Ran, Result, report}
-use Rattle.base.specs.Runs.{end-of, run-answer}
-use Rattle.base.specs.declared.Run.{Run}
-use Rattle.base.specs.declared.Run.the-variants.{Ended}
-use Rattle.word.specs.Sums.{sum32}
-use Rattle.record.specs.Records.{Record, AssemblyCode, MachineCode}
-use Rattle.record.specs.Bytes.{assembly-kind, machine-kind, whole, records-of}
-use Rattle.machine.specs.Machine as Rules
-use Rattle.machine.specs.Machine.{Memory, fresh, run}
+use Rattle.base.specs.Answers.{Answer, gives, refused, unless_refuse_at_else_, and-then}
+use Rattle.base.specs.Ends.{report}
+use Rattle.base.specs.Code.{count-answer}
+use Rattle.base.specs.declared.Refusal.{Refusal}
+use Rattle.base.specs.declared.Count.{Count}
+use Rattle.base.specs.declared.Count.the-variants.{Refused, Gives}
+use Rattle.base.proofs.Answers.{gives-one}
+use Rattle.base.proofs.Settled.{unless-passed, needed, both, settled, declined}
+use Rattle.record.specs.Records.{AssemblyCode, MachineCode}
+use Rattle.record.specs.Bytes.{Kind, assembly-kind, machine-kind}
+use Rattle.record.specs.Bytes.{whole-records, record-count, records-from, records-of}
+use Rattle.record.proofs.Testing.{few-records}
+use Rattle.record.proofs.Tested.{records-length}
 use Rattle.machine.specs.Memories.{Assembly}
-use Rattle.machine.specs.Answers.{fresh-machine, result-of}
-use Rattle.machine.specs.declared.Machine.{Machine}
-use Rattle.machine.specs.declared.Ran as Code
 use Rattle.machine.specs.Calls.{assembly-tests, assembly-run, run-assembly}
 use Rattle.machine.specs.Calls.{memory-fits, machine-tests, machine-run, run-machine}
-use Rattle.machine.proofs.Running.{run-on}
 
--- ---- From the code's run to the call's answer
+-- ---- The number of records that tests give
 
--- The run of a code's fresh machine is the run of a fresh machine.
-pub from-fresh : {M Name : Type 0} (D : ℕ) (o : Memory M Name) (P : List (Record Name)) (budget : ℕ) (s : Machine)
-    (m : M) → s ≡ fresh-machine → run-on D o P (budget - s .count) s m ≡ run sum32 D o P budget (fresh m)
-from-fresh D o P budget s m e =
-    ap (λ (s : Machine). run-on D o P (budget - s .count) s m) e
-    ∙ ap (λ (n : ℕ). run sum32 D o P n (fresh m)) (sub-zero budget)
+abbrev pub number-given : {A : Type 0} → Answer (List A) → Answer ℕ
+number-given tests = and-then tests (λ P. gives (length P))
 
--- The code's answer tells what the run's result tells, where the count is within the budget.
-pub told : {M : Type 0} {a : Run} (budget : ℕ) (r : Code.Ran) (m : M) (R : Result (Rules.Machine M))
-    → a ≡ Ended (r .end) (r .machine .count) → r .machine .count ≤ budget → result-of budget r m ≡ R
-    → _≡_ {A = Answer Ran × M} (run-answer a, m) (gives (report budget R), R .leaves .memory)
-told budget r m R answer within same =
-    (λ i. (run-answer (answer i), m))
-    ∙ (λ i. (gives (record { end = end-of (r .end); count = count i }), m))
-    ∙ (λ i. (gives (report budget (same i)), same i .leaves .memory))
+-- Where the code's count of them is `last`, they gave as many records;
+counted : {A : Type 0} {r : Count} {last : ℕ} (tests : Answer (List A)) → r ≡ Gives last
+    → count-answer r ≡ number-given tests → (P : List A) × (tests ≡ gives P) × (length P ≡ last)
+counted tests is e =
+    let n = needed tests (λ P. gives (length P)) (sym e ∙ ap count-answer is) in
+    (n .value, n .given, gives-one _ _ (n .then-gives))
+
+-- where it is a refusal, it is theirs.
+pub refused-by : {A : Type 0} {r : Count} {why : Refusal} (tests : Answer (List A)) → r ≡ Refused why
+    → count-answer r ≡ number-given tests → tests ≡ refused (why .number) (why .place)
+refused-by tests is e = by tests (sym e ∙ ap count-answer is)
   where
-    count : r .machine .count ≡ budget - (budget - r .machine .count)
-    count = omega arith
+    by : {A : Type 0} {number place : ℕ} (tests : Answer (List A)) → number-given tests ≡ refused number place
+        → tests ≡ refused number place
+    by (gives P) e = unfold and-then in (let no : _≡_ {A = ℕ} 0 1 = cc in absurd (omega arith))
+    by (refused number place) e = unfold and-then in (cc)
+
+-- What is found of code whose tests give `last` records
+pub record CodeFound {Name : Type 0} (k : Kind Name) (code : List ℕ) (P : _) (last : ℕ) : Type 0 where
+  pub few : last ≤ 4096
+  pub whole : 5 * last ≤ length code
+  pub given : records-from k code 0 last ≡ gives P
+
+code-found : {Name : Type 0} (k : Kind Name) (code : List ℕ) {P : _} {last : ℕ} → whole-records code ≡ true
+    → records-of k code ≡ gives P → length P ≡ last → CodeFound k code P last
+code-found k code {P} {last} is-whole e all =
+    let same : record-count code ≡ last = sym (records-length k code 0 (record-count code) e) ∙ all in
+    record {
+      few = omega (arith, few-records code is-whole);
+      whole = omega arith;
+      given = ap (λ (n : ℕ). records-from k code 0 n) (sym same) ∙ e;
+    }
 
 -- ---- Assembly
 
--- The answer of the tests from what each of them finds
-abbrev pub assembly-tested : Bool → Bool → Answer AssemblyCode → Bool → Answer AssemblyCode
-assembly-tested is-whole sized records fits =
-    unless is-whole refuse 9 at 0 else
-    unless sized refuse 8 at 0 else
-    and-then records (λ P. unless fits refuse 11 at 0 else gives P)
-
-module _ (code : List ℕ) (m : Assembly) (budget : ℕ) where
-  -- The call from the answer of the tests
-  abbrev pub assembly-settled : Answer AssemblyCode → Answer Ran × Assembly
-  assembly-settled x =
-      settle x (λ P. report budget (assembly-run P m budget)) (λ P. assembly-run P m budget .leaves .memory) m
-
-  pub assembly-call : (w s : Bool) (x : Answer AssemblyCode) (f : Bool) → whole code ≡ w
+module _ (code : List ℕ) (m : Assembly) where
+  -- The number that the tests give, from what each of them finds
+  pub assembly-tested : {w s : Bool} {x : Answer AssemblyCode} {f : Bool} → whole-records code ≡ w
       → eqb (length (m .store)) 64 ≡ s → records-of assembly-kind code ≡ x → leb (length (m .stack)) 64 ≡ f
-      → run-assembly code m budget ≡ assembly-settled (assembly-tested w s x f)
-  unfolding run-assembly assembly-tests
-  assembly-call w s x f is-whole sized records fits =
-      λ i. assembly-settled (assembly-tested (is-whole i) (sized i) (records i) (fits i))
+      → number-given (assembly-tests code m)
+      ≡ number-given (unless w refuse 9 at 0 else
+      unless s refuse 8 at 0 else
+      and-then x (λ P. unless f refuse 11 at 0 else gives P))
+  unfolding assembly-tests
+  assembly-tested is-whole sized records fits =
+      λ i. number-given (unless is-whole i refuse 9 at 0 else
+      unless sized i refuse 8 at 0 else
+      and-then (records i) (λ P. unless fits i refuse 11 at 0 else gives P))
+
+  -- What was found where they give `last` records
+  pub record AssemblyFound (last : ℕ) : Type 0 where
+    pub records : AssemblyCode
+    pub answer : assembly-tests code m ≡ gives records
+    pub code-is : CodeFound assembly-kind code records last
+    pub sized : length (m .store) ≡ 64
+
+  pub assembly-found : {r : Count} {last : ℕ} → r ≡ Gives last → count-answer r ≡ number-given (assembly-tests code m)
+      → AssemblyFound last
+  unfolding assembly-tests
+  assembly-found is e =
+      let c = counted (assembly-tests code m) is e in
+      let w = unless-passed (whole-records code) 9 0 _ (c .1) in
+      let s = unless-passed (eqb (length (m .store)) 64) 8 0 _ (w .1) in
+      let n = needed (records-of assembly-kind code) _ (s .1) in
+      let f = unless-passed (leb (length (m .stack)) 64) 11 0 _ (n .then-gives) in
+      record {
+        records = c .0;
+        answer = c .1;
+        code-is = code-found assembly-kind code (w .0) (n .given ∙ f .1) (c .2);
+        sized = eqb-true (length (m .store)) 64 (s .0);
+      }
+
+  -- The call
+  pub assembly-declines : (budget : ℕ) {r : Count} {why : Refusal} → r ≡ Refused why
+      → count-answer r ≡ number-given (assembly-tests code m)
+      → (refused (why .number) (why .place), m) ≡ run-assembly code m budget
+  unfolding run-assembly
+  assembly-declines budget is e = declined (assembly-tests code m) _ _ m (refused-by (assembly-tests code m) is e)
+
+  pub assembly-runs : (budget : ℕ) {P : AssemblyCode} → assembly-tests code m ≡ gives P
+      → let r = assembly-run P m budget in
+      (gives (report budget r), r .leaves .memory) ≡ run-assembly code m budget
+  unfolding run-assembly
+  assembly-runs budget e = settled (assembly-tests code m) _ _ m e refl
 
 -- ---- Machine code
 
-abbrev pub machine-tested : Bool → Answer MachineCode → Bool → Answer MachineCode
-machine-tested is-whole records fits =
-    unless is-whole refuse 9 at 0 else
-    and-then records (λ P. unless fits refuse 11 at 0 else gives P)
-
-module _ (code : List ℕ) (m : List ℤ) (D n budget : ℕ) where
-  abbrev pub machine-settled : Answer MachineCode → Answer Ran × List ℤ
-  machine-settled x =
-      settle x (λ P. report budget (machine-run P m D budget)) (λ P. machine-run P m D budget .leaves .memory) m
-
-  pub machine-call : (w : Bool) (x : Answer MachineCode) (f : Bool) → whole code ≡ w
+module _ (code : List ℕ) (m : List ℤ) (D n : ℕ) where
+  pub machine-tested : {w : Bool} {x : Answer MachineCode} {f : Bool} → whole-records code ≡ w
       → records-of (machine-kind n) code ≡ x → memory-fits D n m ≡ f
-      → run-machine code m D n budget ≡ machine-settled (machine-tested w x f)
-  unfolding run-machine machine-tests
-  machine-call w x f is-whole records fits = λ i. machine-settled (machine-tested (is-whole i) (records i) (fits i))
+      → number-given (machine-tests code m D n)
+      ≡ number-given (unless w refuse 9 at 0 else
+      and-then x (λ P. unless f refuse 11 at 0 else gives P))
+  unfolding machine-tests
+  machine-tested is-whole records fits =
+      λ i. number-given (unless is-whole i refuse 9 at 0 else
+      and-then (records i) (λ P. unless fits i refuse 11 at 0 else gives P))
 
--- What the test of the memory says
-pub memory-facts : (D n : ℕ) (m : List ℤ) → memory-fits D n m ≡ true → (D ≤ 64) × (n ≤ 64) × (length m ≡ D + 1 + n)
-memory-facts D n m e = by (leb D 64) (leb n 64) (leb-true D 64) (leb-true n 64) e
-  where
-    by : (d k : Bool) → (d ≡ true → D ≤ 64) → (k ≡ true → n ≤ 64) → (d && (k && eqb (length m) (D + 1 + n))) ≡ true
-        → (D ≤ 64) × (n ≤ 64) × (length m ≡ D + 1 + n)
-    by true true deep few e = (deep refl, few refl, eqb-true (length m) (D + 1 + n) e)
-    by true false deep few e = absurd (let no : _≡_ {A = ℕ} 0 1 = cc in omega arith)
-    by false k deep few e = absurd (let no : _≡_ {A = ℕ} 0 1 = cc in omega arith)
+  pub record MachineFound (last : ℕ) : Type 0 where
+    pub records : MachineCode
+    pub answer : machine-tests code m D n ≡ gives records
+    pub code-is : CodeFound (machine-kind n) code records last
+    pub deep : D ≤ 64
+    pub small : n ≤ 64
+    pub cells-are : length m ≡ D + 1 + n
+
+  pub machine-found : {r : Count} {last : ℕ} → r ≡ Gives last
+      → count-answer r ≡ number-given (machine-tests code m D n) → MachineFound last
+  unfolding machine-tests
+  machine-found is e =
+      let c = counted (machine-tests code m D n) is e in
+      let w = unless-passed (whole-records code) 9 0 _ (c .1) in
+      let n′ = needed (records-of (machine-kind n) code) _ (w .1) in
+      let f = unless-passed (memory-fits D n m) 11 0 _ (n′ .then-gives) in
+      let deep = both (leb D 64) _ (f .0) in
+      let small = both (leb n 64) _ (deep .1) in
+      record {
+        records = c .0;
+        answer = c .1;
+        code-is = code-found (machine-kind n) code (w .0) (n′ .given ∙ f .1) (c .2);
+        deep = leb-true D 64 (deep .0);
+        small = leb-true n 64 (small .0);
+        cells-are = eqb-true (length m) (D + 1 + n) (small .1);
+      }
+
+  pub machine-declines : (budget : ℕ) {r : Count} {why : Refusal} → r ≡ Refused why
+      → count-answer r ≡ number-given (machine-tests code m D n)
+      → (refused (why .number) (why .place), m) ≡ run-machine code m D n budget
+  unfolding run-machine
+  machine-declines budget is e = declined (machine-tests code m D n) _ _ m (refused-by (machine-tests code m D n) is e)
+
+  pub machine-runs : (budget : ℕ) {P : MachineCode} → machine-tests code m D n ≡ gives P
+      → let r = machine-run P m D budget in
+      (gives (report budget r), r .leaves .memory) ≡ run-machine code m D n budget
+  unfolding run-machine
+  machine-runs budget e = settled (machine-tests code m D n) _ _ m e refl

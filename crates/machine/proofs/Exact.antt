@@ -1,19 +1,19 @@
 -- A run that is not spent needs exactly its count: any more ticks are left over, and with fewer it is spent.
 -- The rule for sums does not look at the ticks left. The idea: cut the run after its count, by `split`; the first part
 -- can't be spent, since a spent machine has a record due, and that record would take a tick more.
-use mathlib.Core.Path.{_≡_, refl, sym, _∙_, ap, subst, fun-ext}
-use Prim.Native.Nat.{ℕ, zero, suc, _+_, _-_, _≤_, _<_}
+use mathlib.Core.Path.{_≡_, refl, sym, _∙_, ap, fun-ext}
+use Prim.Native.Nat.{ℕ, suc, _+_, _-_, _≤_, _<_}
 use native.Mathlib.Nat.{zero-add}
 use native.Mathlib.Omega.{arith}
 use mathlib.Core.List.{List}
-use mathlib.Core.Option.{none, some}
+use mathlib.Core.Option.{some}
 use lib.IntN.{ℤ}
 use lib.ListN.{getElem?}
-use Rattle.base.specs.Ends.{Fault, End, fault, Result, result}
+use Rattle.base.specs.Ends.{End, fault, Result, result}
 use Rattle.word.specs.Sums.{SumRule}
 use Rattle.record.specs.Records.{Record}
 use Rattle.machine.specs.Machine.{Memory, Machine, run}
-use Rattle.machine.specs.Claims.{ahead, resume, Walk, stay, step, Made}
+use Rattle.machine.specs.Claims.{resume, Walk, stay, step, Made}
 use Rattle.machine.proofs.Counting.{counted}
 use Rattle.machine.proofs.Splitting.{split}
 

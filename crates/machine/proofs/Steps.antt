@@ -134,12 +134,9 @@ module _ {M Name : Type 0} (sum : ℤ → ℤ → Sum) (D : ℕ) (o : Memory M N
       (two (λ k. does (JMPLESS i) p k m) k h ∙ x .0, two (λ k. does (JMPGE i) p k m) k h ∙ x .1)
 
   -- JMPLESS under the flag true, JMPGE under false: taken where the comparison is the flag
-  abbrev pub comparing : Bool → ℤ → Record Name
-  comparing flag i = if flag then JMPLESS i else JMPGE i
-
   pub compare-taken : (flag : Bool) (i : ℤ) (p k : ℕ) (m : M) → 2 ≤ k
       → ltZ (o .peek m (k - 2)) (o .peek m (k - 1)) ≡ flag
-      → does (comparing flag i) p k m ≡ jump sum D o last i (at p (k - 2) m)
+      → does (if flag then JMPLESS i else JMPGE i) p k m ≡ jump sum D o last i (at p (k - 2) m)
   compare-taken true i p k m h e = compare-on i p k m true h e .0
   compare-taken false i p k m h e = compare-on i p k m false h e .1
 
@@ -149,14 +146,14 @@ module _ {M Name : Type 0} (sum : ℤ → ℤ → Sum) (D : ℕ) (o : Memory M N
 
   pub compare-passed : (flag : Bool) (i : ℤ) (p k : ℕ) (m : M) → 2 ≤ k
       → ltZ (o .peek m (k - 2)) (o .peek m (k - 1)) ≡ not flag
-      → does (comparing flag i) p k m ≡ ok tt (at (p + 1) (k - 2) m)
+      → does (if flag then JMPLESS i else JMPGE i) p k m ≡ ok tt (at (p + 1) (k - 2) m)
   compare-passed true i p k m h e = compare-on i p k m false h e .0 ∙ next-one p (k - 2) m
   compare-passed false i p k m h e = compare-on i p k m true h e .1 ∙ next-one p (k - 2) m
 
-  pub comparing-short : (flag : Bool) (i : ℤ) (p k : ℕ) (m : M) → k < 2
-      → does (comparing flag i) p k m ≡ ended Fault.short
-  comparing-short true i p k m h = compare-short i p k m h .0
-  comparing-short false i p k m h = compare-short i p k m h .1
+  pub compare-stopped : (flag : Bool) (i : ℤ) (p k : ℕ) (m : M) → k < 2
+      → does (if flag then JMPLESS i else JMPGE i) p k m ≡ ended Fault.short
+  compare-stopped true i p k m h = compare-short i p k m h .0
+  compare-stopped false i p k m h = compare-short i p k m h .1
 
 -- ---- a run's three cases
 

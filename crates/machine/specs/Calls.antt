@@ -9,16 +9,16 @@ use Rattle.base.specs.Answers.{Answer, gives, unless_refuse_at_else_, and-then,
 use Rattle.base.specs.Ends.{Result, Ran, report}
 use Rattle.word.specs.Sums.{sum32}
 use Rattle.record.specs.Records.{AssemblyCode, MachineCode}
-use Rattle.record.specs.Bytes.{assembly-kind, machine-kind, whole, records-of}
+use Rattle.record.specs.Bytes.{assembly-kind, machine-kind, whole-records, records-of}
 use Rattle.machine.specs.Machine.{Machine, fresh, run}
-use Rattle.machine.specs.Memories.{Assembly, assembly, cells}
+use Rattle.machine.specs.Memories.{Assembly, assembly, machine-cells}
 
 -- ---- Assembly
 
 -- Refusals: 9, 8 ("store not 64 cells"), 10, 11 ("assembly: stack above 64")
 unfoldable pub assembly-tests : List ℕ → Assembly → Answer AssemblyCode
 assembly-tests code m =
-    unless whole code refuse 9 at 0 else
+    unless whole-records code refuse 9 at 0 else
     unless eqb (length (m .store)) 64 refuse 8 at 0 else
     and-then (records-of assembly-kind code) (λ P.
     unless leb (length (m .stack)) 64 refuse 11 at 0 else
@@ -43,13 +43,13 @@ memory-fits D n memory = leb D 64 && (leb n 64 && eqb (length memory) (D + 1 + n
 -- Refusals: 9, 10, 11
 unfoldable pub machine-tests : List ℕ → List ℤ → ℕ → ℕ → Answer MachineCode
 machine-tests code memory D n =
-    unless whole code refuse 9 at 0 else
+    unless whole-records code refuse 9 at 0 else
     and-then (records-of (machine-kind n) code) (λ P.
     unless memory-fits D n memory refuse 11 at 0 else
     gives P)
 
 abbrev pub machine-run : MachineCode → List ℤ → ℕ → ℕ → Result (Machine (List ℤ))
-machine-run P memory D budget = run sum32 D (cells D) P budget (fresh memory)
+machine-run P memory D budget = run sum32 D (machine-cells D) P budget (fresh memory)
 
 -- The end and the count; the memory as it is left
 unfoldable pub run-machine : List ℕ → List ℤ → ℕ → ℕ → ℕ → Answer Ran × List ℤ

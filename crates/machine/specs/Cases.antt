@@ -1,17 +1,20 @@
 -- Small codes that come to each end, on both memories (document 01, "Executors"). They name no variable and no address,
--- so the same rows serve assembly and machine code.
+-- so the same rows serve assembly and machine code. Then where the two calls decline ("When a call declines").
 use mathlib.Core.Path.{_≡_}
 use Prim.Native.Nat.{ℕ, _+_, _-_}
-use mathlib.Core.List.{List, [], _∷_, map}
+use mathlib.Core.List.{List, [], _∷_, _++_, map}
 use lib.IntN.{ℤ, pos, negsuc}
 use lib.ListN.{replicate}
-use Rattle.base.specs.Ends.{Fault, short, full, out-of-range, astray, End, done, spent, fault, Result}
+use Rattle.base.specs.Answers.{Answer, gives, refused}
+use Rattle.base.specs.Ends.{Fault, short, full, out-of-range, astray, End, done, spent, fault, Result, Ran}
 use Rattle.word.specs.Sums.{sum32}
 use Rattle.record.specs.Records.{Record, LOADI, ADD, JMP, JMPLESS, JMPGE}
+use Rattle.record.specs.Cases.{five}
 use Rattle.record.specs.declared.Variable.{Variable}
 use Rattle.record.specs.declared.Address.{Address}
 use Rattle.machine.specs.Machine.{Machine, fresh, run}
-use Rattle.machine.specs.Memories.{assembly, cells}
+use Rattle.machine.specs.Memories.{Assembly, assembly, machine-cells}
+use Rattle.machine.specs.Calls.{run-assembly, run-machine}
 
 -- A code, D and a budget; the end and the count
 pub record Row (Name : Type 0) : Type 0 where
@@ -54,9 +57,70 @@ by-assembly k = ended-by k (run sum32 (k .depth) assembly (k .code) (k .budget)
     (fresh (record { stack = replicate (k .depth) (pos 0); store = replicate 64 (pos 0) })))
 
 abbrev pub by-machine : Row Address → Row Address
-by-machine k = ended-by k (run sum32 (k .depth) (cells (k .depth)) (k .code) (k .budget)
+by-machine k = ended-by k (run sum32 (k .depth) (machine-cells (k .depth)) (k .code) (k .budget)
     (fresh (replicate (k .depth + 1) (pos 0))))
 
 -- Every row holds on both memories.
 abbrev pub EndsCome : Type 0
 EndsCome = (map by-assembly (rows Variable) ≡ rows Variable) × (map by-machine (rows Address) ≡ rows Address)
+
+-- ---- Where run_assembly declines: 9, 8, 10, 11
+
+-- what is lent: a stack of some cells, each 8, and a store of some cells, each 7
+abbrev pub lent : ℕ → ℕ → Assembly
+lent stack store = record { stack = replicate stack (pos 8); store = replicate store (pos 7) }
+
+-- code with nothing to run is done at 0
+abbrev pub done-at-0 : Answer Ran
+done-at-0 = gives (record { end = done; count = 0 })
+
+-- Number and place, and the stack and the store as they were. Where there are two faults, the first in order is given.
+pub record AssemblyDeclines : Type 0 where
+  -- 9: 4 bytes
+  pub nine : run-assembly (replicate 4 0x40) (lent 1 64) 9 ≡ (refused 9 0, lent 1 64)
+  -- 8: a store of 63 cells, and of 65
+  pub eight : run-assembly (five 0x40 0) (lent 1 63) 9 ≡ (refused 8 0, lent 1 63)
+  pub eight-longer : run-assembly (five 0x40 0) (lent 1 65) 9 ≡ (refused 8 0, lent 1 65)
+  -- 10: `42 01 00 00 00`; the variable 64; after LOADI 0, at index 1
+  pub ten : run-assembly (five 0x42 1) (lent 1 64) 9 ≡ (refused 10 0, lent 1 64)
+  pub ten-variable : run-assembly (five 0x41 64) (lent 1 64) 9 ≡ (refused 10 0, lent 1 64)
+  pub ten-second : run-assembly (five 0x40 0 ++ (five 0x42 1 ++ five 0x41 64)) (lent 1 64) 9
+      ≡ (refused 10 1, lent 1 64)
+  -- 11: a stack of 65 cells; one of 64 is not too long
+  pub eleven : run-assembly [] (lent 65 64) 9 ≡ (refused 11 0, lent 65 64)
+  pub not-eleven : run-assembly [] (lent 64 64) 9 ≡ (done-at-0, lent 64 64)
+  -- 9, and 8: 4 bytes, and a store of 63 cells
+  pub nine-eight : run-assembly (replicate 4 0x40) (lent 1 63) 9 ≡ (refused 9 0, lent 1 63)
+  -- 8, and 10: a store of 63 cells, and `42 01 00 00 00`
+  pub eight-ten : run-assembly (five 0x42 1) (lent 1 63) 9 ≡ (refused 8 0, lent 1 63)
+  -- 10, and 11: `42 01 00 00 00`, and a stack of 65 cells
+  pub ten-eleven : run-assembly (five 0x42 1) (lent 65 64) 9 ≡ (refused 10 0, lent 65 64)
+
+-- ---- Where run_machine declines: 9, 10, 11
+
+-- a memory of some cells, each 8
+abbrev pub memory : ℕ → List ℤ
+memory k = replicate k (pos 8)
+
+-- Number and place, and the memory as it was. After the memory stand D, n and the budget.
+pub record MachineDeclines : Type 0 where
+  -- 9: 4 bytes
+  pub nine : run-machine (replicate 4 0x50) (memory 4) 2 1 9 ≡ (refused 9 0, memory 4)
+  -- 10: `52 01 00 00 00`; the addresses 0 and n + 1; after MLOADI 0, at index 1
+  pub ten : run-machine (five 0x52 1) (memory 4) 2 1 9 ≡ (refused 10 0, memory 4)
+  pub ten-address-0 : run-machine (five 0x51 0) (memory 4) 2 1 9 ≡ (refused 10 0, memory 4)
+  pub ten-address-2 : run-machine (five 0x51 2) (memory 4) 2 1 9 ≡ (refused 10 0, memory 4)
+  pub ten-second : run-machine (five 0x50 0 ++ (five 0x52 1 ++ five 0x51 0)) (memory 4) 2 1 9
+      ≡ (refused 10 1, memory 4)
+  -- 11: D 2, n 1, 3 cells, and 5 cells; D 65; n 65; D 64 and n 64 are not above 64
+  pub eleven : run-machine (five 0x50 0) (memory 3) 2 1 9 ≡ (refused 11 0, memory 3)
+  pub eleven-longer : run-machine (five 0x50 0) (memory 5) 2 1 9 ≡ (refused 11 0, memory 5)
+  pub eleven-D : run-machine (five 0x50 0) (memory 67) 65 1 9 ≡ (refused 11 0, memory 67)
+  pub eleven-n : run-machine (five 0x50 0) (memory 68) 2 65 9 ≡ (refused 11 0, memory 68)
+  pub not-eleven : run-machine [] (memory 129) 64 64 9 ≡ (done-at-0, memory 129)
+  -- 9, and 10: `52 01 00 00 00` and a byte more
+  pub nine-ten : run-machine (five 0x52 1 ++ (0x50 ∷ [])) (memory 4) 2 1 9 ≡ (refused 9 0, memory 4)
+  -- 10, and 11: `52 01 00 00 00`, and 3 cells; the address 66, and n 65, by which the address 65 is not too high
+  pub ten-eleven : run-machine (five 0x52 1) (memory 3) 2 1 9 ≡ (refused 10 0, memory 3)
+  pub ten-eleven-n : run-machine (five 0x51 66) (memory 68) 2 65 9 ≡ (refused 10 0, memory 68)
+  pub eleven-alone : run-machine (five 0x51 65) (memory 68) 2 65 9 ≡ (refused 11 0, memory 68)

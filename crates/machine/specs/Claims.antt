@@ -1,5 +1,5 @@
--- What is claimed of runs, on any memory, of any code and under any rule for sums. A run goes on where it was spent; its
--- count is the number of its steps; it stays within its code and its stack. The proof of the same spelling stands in
+-- What is claimed of runs, on any memory, of any code and under any rule for sums. A run's count is the number of its
+-- steps; it stays within its code and its stack; it goes on where it was spent. The proof of the same spelling stands in
 -- proofs/.
 use mathlib.Core.Path.{_≡_}
 use Prim.Native.Nat.{ℕ, suc, _+_, _≤_, _<_}
@@ -12,24 +12,6 @@ use Rattle.word.specs.Sums.{SumRule}
 use Rattle.record.specs.Records.{Record}
 use Rattle.base.specs.Ends.{End, fault, Result, result}
 use Rattle.machine.specs.Machine.{Memory, Machine, fresh, act, run}
-
--- ---- Runs in two parts
-
--- A rule that looks at the ticks left, in the first part of a run whose second part has b ticks
-abbrev pub ahead : ℕ → SumRule → SumRule
-ahead b sum = λ n x y. sum (n + b) x y
-
-module _ {M Name : Type 0} (sum : SumRule) (D : ℕ) (o : Memory M Name) (code : List (Record Name)) where
-  -- a result gone on with b ticks more: run on where the ticks were spent
-  unfoldable pub resume : ℕ → End → ℕ → Machine M → Result (Machine M)
-  resume b End.done n s = result End.done (n + b) s
-  resume b End.spent n s = run sum D o code b s
-  resume b (fault e) n s = result (fault e) (n + b) s
-
-  -- A run with a + b ticks is a run with a ticks, gone on with b more.
-  abbrev pub Split : Type 0
-  Split = (a b : ℕ) (s : Machine M) → let r = run (ahead b sum) D o code a s in
-      run sum D o code (a + b) s ≡ resume b (r .end) (r .left) (r .leaves)
 
 -- ---- Runs as steps
 
@@ -58,7 +40,23 @@ module _ {M Name : Type 0} (sum : SumRule) (D : ℕ) (o : Memory M Name) (code :
   Inside = (n : ℕ) (m : M)
       → let s = run sum D o code n (fresh m) .leaves in (s .position ≤ length code) × (s .size ≤ D)
 
--- ---- What a run keeps of its memory
+-- ---- Frames of laws, from which other claims are proved. No reader has to believe them
+
+-- A rule that looks at the ticks left, in the first part of a run whose second part has b ticks
+abbrev pub ahead : ℕ → SumRule → SumRule
+ahead b sum = λ n x y. sum (n + b) x y
+
+module _ {M Name : Type 0} (sum : SumRule) (D : ℕ) (o : Memory M Name) (code : List (Record Name)) where
+  -- a result gone on with b ticks more: run on where the ticks were spent
+  unfoldable pub resume : ℕ → End → ℕ → Machine M → Result (Machine M)
+  resume b End.done n s = result End.done (n + b) s
+  resume b End.spent n s = run sum D o code b s
+  resume b (fault e) n s = result (fault e) (n + b) s
+
+  -- A run with a + b ticks is a run with a ticks, gone on with b more.
+  abbrev pub Split : Type 0
+  Split = (a b : ℕ) (s : Machine M) → let r = run (ahead b sum) D o code a s in
+      run sum D o code (a + b) s ≡ resume b (r .end) (r .left) (r .leaves)
 
 -- a property of memories that saving and poking keep
 pub record Keeps {M Name : Type 0} (D : ℕ) (o : Memory M Name) (Q : M → Type 0) : Type 0 where

@@ -102,7 +102,7 @@ after (ended e) go stop = stop e
 
 -- ---- A run
 
--- The sum rule may look at the ticks left after the record's tick
+-- The rule for sums gets the ticks left after the record's tick (word/specs/Sums says why)
 module _ {M Name : Type 0} (sum : SumRule) (D : ℕ) (o : Memory M Name) (code : List (Record Name)) where
   -- the record due, if any
   abbrev pub due : Machine M → Option (Record Name)

@@ -22,8 +22,8 @@ assembly = record {
 
 -- "Machine memory has D + 1 + n cells; cell j is address j − D. The stack grows from −1 down": stack slot i has address
 -- −1 − i
-abbrev pub cells : ℕ → Memory (List ℤ) Address
-cells D = record {
+abbrev pub machine-cells : ℕ → Memory (List ℤ) Address
+machine-cells D = record {
   load = λ m a. getD m (D + a .0) (pos 0);
   save = λ m a z. set m (D + a .0) z;
   peek = λ m i. getD m (D - 1 - i) (pos 0);

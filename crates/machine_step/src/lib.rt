@@ -1,180 +1,342 @@
-// A step of machine code: one function for each record, over a stack and variables that are cells of one lent slice.
+// The stack machine by value, and one step of it over either memory. The records that touch only the stack are methods
+// that both executors share; LOAD, STORE and the dispatch are each executor's own.
 use base::End;
-use machine::Machine;
-use machine::Step;
+use base::Run;
 use record::Address;
+use record::Variable;
 use word::Sum;
+use word::Target;
 ghost use mathlib.Core.Path.{_≡_};
-ghost use Prim.Native.Nat.{_+_, _<_};
-ghost use lib.ListN.{length};
-ghost use Rattle.record.specs.Records.{LOADI, LOAD, ADD, STORE, JMP, JMPLESS, JMPGE};
-ghost use Rattle.machine.specs.Memories.{cells};
-ghost use Rattle.machine.specs.Answers.{step-of};
-ghost use Rattle.machine_step.specs.Steps.{done-on, Steps, Ready, Passed};
+ghost use Prim.Native.Nat.{_+_, _<_, _≤_, _^_};
+ghost use lib.IntN.{pos};
+ghost use lib.ListN.{length, getD, set};
+ghost use Rattle.word.specs.Targets.{target};
+ghost use Rattle.record.specs.Records.{LOADI, ADD, STORE};
+ghost use Rattle.machine_step.specs.Code.{fresh-machine, stopped, moved, landed, step-of};
+ghost use Rattle.machine_step.specs.declared.Layout.the-variants.{Upward, Downward};
+ghost use Rattle.machine_step.specs.Steps.{index-of, comparing, upward, downward, OnStack, Ready};
+ghost use Rattle.machine_step.specs.Steps.{on-machine, MachineSteps, MachinePassed};
+ghost use Rattle.machine_step.specs.Steps.{assembly-of, on-assembly, AssemblySteps, AssemblyPassed};
 
-// A machine in code that ends at position `last`, over memory whose first `depth` cells are its stack's.
-pub struct Executor {
+// The position of the record due, the records counted, the number of values on the stack.
+pub struct Machine {
+    pub position: usize,
+    pub count: u32,
+    pub size: usize,
+}
+
+// What a step comes to: the next machine, or an end and the machine that it leaves.
+pub enum Step {
+    Next(Machine),
+    Ended(End, Machine),
+}
+
+// How a run ended, and the machine that it left.
+pub struct Halted {
+    pub end: End,
     pub machine: Machine,
+}
+
+// Where the stack lies in the lent slice: bottom first (assembly), or from address −1 down (machine code).
+pub enum Layout {
+    Upward,
+    Downward,
+}
+
+// What a run's steps share: where the stack lies, its D slots, and the position at which the code ends.
+pub struct Limits {
+    pub layout: Layout,
     pub depth: usize,
     pub last: usize,
 }
 
-// The value in stack slot i, counted from the bottom: address −1 − i.
-fn peek(memory: &[i32], depth: usize, i: usize) -> i32
-    requires { ⌜ (i < depth) × (depth < length (now memory)) ⌝ }
-    ensures { λ r. ⌜ r ≡ cells depth .peek (now (memory .entry)) i ⌝ }
-{
-    memory[depth - 1 - i]
-}
+impl Limits {
+    // The index of stack slot i, counted from the bottom.
+    fn index(self, i: usize) -> usize
+        requires { ⌜ i < self .depth ⌝ }
+        ensures { λ r. ⌜ (r ≡ index-of (self .layout) (self .depth) i) × (r < self .depth) ⌝ }
+    {
+        let layout = self.layout;
+        match layout {
+            Layout::Upward => i,
+            Layout::Downward => self.depth - 1 - i,
+        }
+    }
 
-// A value put into stack slot i.
-fn poke(memory: &mut [i32], depth: usize, i: usize, z: i32)
-    requires { ⌜ (i < depth) × (depth < length (now memory)) ⌝ }
-    ensures { λ _. ⌜ now (memory .exit) ≡ cells depth .poke (now (memory .entry)) i z ⌝ }
-{
-    memory[depth - 1 - i] = z;
+    // The value in stack slot i.
+    fn peek(self, lent: &[i32], i: usize) -> i32
+        requires { ⌜ (i < self .depth) × (self .depth ≤ length (now lent)) ⌝ }
+        ensures { λ r. ⌜ r ≡ getD (now (lent .entry)) (index-of (self .layout) (self .depth) i) (pos 0) ⌝ }
+    {
+        let at = self.index(i);
+        lent[at]
+    }
+
+    // A value put into stack slot i.
+    fn poke(self, lent: &mut [i32], i: usize, z: i32)
+        requires { ⌜ (i < self .depth) × (self .depth ≤ length (now lent)) ⌝ }
+        ensures { λ _. ⌜ now (lent .exit) ≡ set (now (lent .entry)) (index-of (self .layout) (self .depth) i) z ⌝ }
+    {
+        let at = self.index(i);
+        lent[at] = z;
+    }
 }
 
 // The value at an address.
-fn value(memory: &[i32], depth: usize, address: Address) -> i32
+fn value_at(memory: &[i32], depth: usize, address: Address) -> i32
     requires { ⌜ depth + address .0 < length (now memory) ⌝ }
-    ensures { λ r. ⌜ r ≡ cells depth .load (now (memory .entry)) address ⌝ }
+    ensures { λ r. ⌜ r ≡ getD (now (memory .entry)) (depth + address .0) (pos 0) ⌝ }
 {
     let at = address.0;
     memory[depth + at]
 }
 
 // A value put at an address.
-fn save(memory: &mut [i32], depth: usize, address: Address, z: i32)
+fn save_at(memory: &mut [i32], depth: usize, address: Address, z: i32)
     requires { ⌜ depth + address .0 < length (now memory) ⌝ }
-    ensures { λ _. ⌜ now (memory .exit) ≡ cells depth .save (now (memory .entry)) address z ⌝ }
+    ensures { λ _. ⌜ now (memory .exit) ≡ set (now (memory .entry)) (depth + address .0) z ⌝ }
 {
     let at = address.0;
     memory[depth + at] = z;
 }
 
-impl Executor {
-    // LOADI: a number pushed. Full where D values stand on the stack.
-    fn loadi(self, memory: &mut [i32], z: i32) -> Step
-        requires { ⌜ Ready self (now memory) ⌝ }
-        ensures { λ r. ⌜ step-of r (now (memory .exit)) ≡ done-on self (now (memory .entry)) (LOADI z) ⌝ }
+// The value of a variable.
+fn value_in(store: &[i32], variable: Variable) -> i32
+    requires { ⌜ variable .0 < length (now store) ⌝ }
+    ensures { λ r. ⌜ r ≡ getD (now (store .entry)) (variable .0) (pos 0) ⌝ }
+{
+    let at = variable.0;
+    store[at]
+}
+
+// A value put into a variable.
+fn save_in(store: &mut [i32], variable: Variable, z: i32)
+    requires { ⌜ variable .0 < length (now store) ⌝ }
+    ensures { λ _. ⌜ now (store .exit) ≡ set (now (store .entry)) (variable .0) z ⌝ }
+{
+    let at = variable.0;
+    store[at] = z;
+}
+
+impl Machine {
+    // The most values on a stack.
+    pub const STACK_CELLS: usize = 64;
+
+    // The most variables.
+    pub const VARIABLES: usize = base::VARIABLES;
+
+    // The most cells of machine memory: the stack's, address 0, the variables'.
+    pub const MEMORY_CELLS: usize = Self::STACK_CELLS + 1 + Self::VARIABLES;
+
+    // A fresh machine: position 0, stack empty, count 0.
+    pub fn fresh() -> Self
+        ensures { λ r. ⌜ r ≡ fresh-machine ⌝ }
     {
-        let machine = self.machine;
-        let size = machine.size;
-        if self.depth <= size {
-            return machine.stops(End::Full);
+        Self {
+            position: 0,
+            count: 0,
+            size: 0,
         }
-        poke(memory, self.depth, size, z);
-        machine.moves(machine.position + 1, size + 1)
     }
 
-    // LOAD: what an address holds, pushed.
-    fn load(self, memory: &mut [i32], address: Address) -> Step
-        requires { ⌜ Ready self (now memory) ⌝ }
-        requires { ⌜ self .depth + address .0 < length (now memory) ⌝ }
-        ensures { λ r. ⌜ step-of r (now (memory .exit)) ≡ done-on self (now (memory .entry)) (LOAD address) ⌝ }
+    // The record is counted, and nothing else changes: the run ends.
+    fn stops(self, end: End) -> Step
+        requires { ⌜ self .count + 1 < 2 ^ 32 ⌝ }
+        ensures { λ r. ⌜ r ≡ stopped self end ⌝ }
     {
-        let z = value(memory, self.depth, address);
-        self.loadi(memory, z)
+        Step::Ended(
+            end,
+            Machine {
+                position: self.position,
+                count: self.count + 1,
+                size: self.size,
+            },
+        )
+    }
+
+    // The record is counted, and the machine goes on at this position with this many values.
+    fn moves(self, position: usize, size: usize) -> Step
+        requires { ⌜ self .count + 1 < 2 ^ 32 ⌝ }
+        ensures { λ r. ⌜ r ≡ moved self position size ⌝ }
+    {
+        Step::Next(Machine {
+            position,
+            count: self.count + 1,
+            size,
+        })
+    }
+
+    // A taken jump in code that ends at position `last`, with this many values left.
+    fn jumps(self, operand: i32, size: usize, last: usize) -> Step
+        requires { ⌜ (self .position < last) × (last ≤ 4096) × (self .count + 1 < 2 ^ 32) ⌝ }
+        ensures { λ r. ⌜ r ≡ landed self size (target (self .position) operand last) ⌝ }
+    {
+        match word::jump(self.position, operand, last) {
+            Target::To(position) => self.moves(position, size),
+            Target::Astray => self.stops(End::Astray),
+        }
+    }
+
+    // LOADI: a number pushed. Full where D values stand on the stack.
+    fn loadi(self, lent: &mut [i32], limits: Limits, z: i32) -> Step
+        requires { ⌜ Ready self limits (now lent) ⌝ }
+        ensures { λ r. ⌜ OnStack self limits (now (lent .entry)) (now (lent .exit)) r (LOADI z) ⌝ }
+    {
+        let size = self.size;
+        if limits.depth <= size {
+            return self.stops(End::Full);
+        }
+        limits.poke(lent, size, z);
+        self.moves(self.position + 1, size + 1)
     }
 
     // ADD: the sum of the two top values in their place. Short, or out of range.
-    fn add(self, memory: &mut [i32]) -> Step
-        requires { ⌜ Ready self (now memory) ⌝ }
-        ensures { λ r. ⌜ step-of r (now (memory .exit)) ≡ done-on self (now (memory .entry)) ADD ⌝ }
+    fn add(self, lent: &mut [i32], limits: Limits) -> Step
+        requires { ⌜ Ready self limits (now lent) ⌝ }
+        ensures { λ r. ⌜ OnStack self limits (now (lent .entry)) (now (lent .exit)) r ADD ⌝ }
     {
-        let machine = self.machine;
-        let size = machine.size;
+        let size = self.size;
         if size < 2 {
-            return machine.stops(End::Short);
+            return self.stops(End::Short);
         }
-        let second = peek(memory, self.depth, size - 2);
-        let top = peek(memory, self.depth, size - 1);
+        let second = limits.peek(lent, size - 2);
+        let top = limits.peek(lent, size - 1);
         match word::add(second, top) {
             Sum::Fits(z) => {
-                poke(memory, self.depth, size - 2, z);
-                machine.moves(machine.position + 1, size - 1)
+                limits.poke(lent, size - 2, z);
+                self.moves(self.position + 1, size - 1)
             }
-            Sum::Out => machine.stops(End::OutOfRange),
+            Sum::Out => self.stops(End::OutOfRange),
         }
     }
 
-    // STORE: the top value taken off and kept at an address. Short.
-    fn store(self, memory: &mut [i32], address: Address) -> Step
-        requires { ⌜ Ready self (now memory) ⌝ }
-        requires { ⌜ self .depth + address .0 < length (now memory) ⌝ }
-        ensures { λ r. ⌜ step-of r (now (memory .exit)) ≡ done-on self (now (memory .entry)) (STORE address) ⌝ }
+    // JMPLESS under the flag true, JMPGE under false: both top values taken off, and a jump where second < top is the
+    // flag. Short, or astray.
+    fn compare(self, lent: &[i32], limits: Limits, flag: bool, operand: i32) -> Step
+        requires { ⌜ Ready self limits (now lent) ⌝ }
+        ensures { λ r. ⌜ OnStack self limits (now (lent .entry)) (now (lent .entry)) r (comparing flag operand) ⌝ }
     {
-        let machine = self.machine;
-        let size = machine.size;
+        let size = self.size;
+        if size < 2 {
+            return self.stops(End::Short);
+        }
+        let second = limits.peek(lent, size - 2);
+        let top = limits.peek(lent, size - 1);
+        if word::less(second, top) == flag {
+            return self.jumps(operand, size - 2, limits.last);
+        }
+        self.moves(self.position + 1, size - 2)
+    }
+
+    // STORE of machine code: the top value taken off and kept at an address. Short.
+    fn store_at(self, memory: &mut [i32], limits: Limits, address: Address) -> Step
+        requires { ⌜ Ready self limits (now memory) × (limits .layout ≡ Downward) ⌝ }
+        requires { ⌜ limits .depth + address .0 < length (now memory) ⌝ }
+        ensures { λ r. ⌜ step-of r (now (memory .exit))
+            ≡ on-machine self (limits .depth) (limits .last) (now (memory .entry)) (STORE address) ⌝ }
+    {
+        let size = self.size;
         if size < 1 {
-            return machine.stops(End::Short);
+            return self.stops(End::Short);
         }
-        let z = peek(memory, self.depth, size - 1);
-        save(memory, self.depth, address, z);
-        machine.moves(machine.position + 1, size - 1)
+        let z = limits.peek(memory, size - 1);
+        save_at(memory, limits.depth, address, z);
+        self.moves(self.position + 1, size - 1)
     }
 
-    // JMP: a jump that is always taken. Astray.
-    fn jmp(self, memory: &[i32], operand: i32) -> Step
-        requires { ⌜ Ready self (now memory) ⌝ }
-        ensures { λ r. ⌜ step-of r (now (memory .entry)) ≡ done-on self (now (memory .entry)) (JMP operand) ⌝ }
+    // STORE of assembly: the top value taken off and kept in a variable. Short.
+    fn store_in(self, store: &mut [i32], stack: &[i32], limits: Limits, variable: Variable) -> Step
+        requires { ⌜ Ready self limits (now stack) × (limits .layout ≡ Upward) ⌝ }
+        requires { ⌜ (limits .depth ≡ length (now stack)) × (variable .0 < length (now store)) ⌝ }
+        ensures { λ r. ⌜ step-of r (assembly-of (now (store .exit)) (now (stack .entry)))
+            ≡ on-assembly self (limits .last) (assembly-of (now (store .entry)) (now (stack .entry)))
+            (STORE variable) ⌝ }
     {
-        let machine = self.machine;
-        machine.jumps(operand, machine.size, self.last)
+        let size = self.size;
+        if size < 1 {
+            return self.stops(End::Short);
+        }
+        let z = limits.peek(stack, size - 1);
+        save_in(store, variable, z);
+        self.moves(self.position + 1, size - 1)
     }
 
-    // JMPLESS: both top values taken off, and a jump if second < top. Short, or astray.
-    fn jmpless(self, memory: &[i32], operand: i32) -> Step
-        requires { ⌜ Ready self (now memory) ⌝ }
-        ensures { λ r. ⌜ step-of r (now (memory .entry)) ≡ done-on self (now (memory .entry)) (JMPLESS operand) ⌝ }
+    // One step of machine code: the record at the machine's position.
+    pub fn step(self, code: &[u8], memory: &mut [i32], depth: usize, last: usize) -> Step
+        requires { ⌜ Ready self (downward depth last) (now memory) ⌝ }
+        requires { ⌜ MachinePassed depth last (now code) (now memory) ⌝ }
+        ensures { λ r. ⌜ MachineSteps self depth last (now (code .entry)) (now (memory .entry))
+            (step-of r (now (memory .exit))) ⌝ }
     {
-        let machine = self.machine;
-        let size = machine.size;
-        if size < 2 {
-            return machine.stops(End::Short);
-        }
-        let second = peek(memory, self.depth, size - 2);
-        let top = peek(memory, self.depth, size - 1);
-        if word::less(second, top) {
-            return machine.jumps(operand, size - 2, self.last);
-        }
-        machine.moves(machine.position + 1, size - 2)
-    }
-
-    // JMPGE: both top values taken off, and a jump if second ≥ top. Short, or astray.
-    fn jmpge(self, memory: &[i32], operand: i32) -> Step
-        requires { ⌜ Ready self (now memory) ⌝ }
-        ensures { λ r. ⌜ step-of r (now (memory .entry)) ≡ done-on self (now (memory .entry)) (JMPGE operand) ⌝ }
-    {
-        let machine = self.machine;
-        let size = machine.size;
-        if size < 2 {
-            return machine.stops(End::Short);
-        }
-        let second = peek(memory, self.depth, size - 2);
-        let top = peek(memory, self.depth, size - 1);
-        if word::less(second, top) {
-            return machine.moves(machine.position + 1, size - 2);
-        }
-        machine.jumps(operand, size - 2, self.last)
-    }
-
-    // One step: the record at the machine's position.
-    pub fn step(self, code: &[u8], memory: &mut [i32]) -> Step
-        requires { ⌜ Ready self (now memory) ⌝ }
-        requires { ⌜ Passed self (now code) (now memory) ⌝ }
-        ensures { λ r. ⌜ Steps self (now (code .entry)) (now (memory .entry)) (step-of r (now (memory .exit))) ⌝ }
-    {
-        let at = self.machine.position;
+        let limits = Limits {
+            layout: Layout::Downward,
+            depth,
+            last,
+        };
+        let at = self.position;
         match record::byte_at(code, at) {
-            0x50 => self.loadi(memory, record::operand_at(code, at)),
-            0x51 => self.load(memory, Address(record::name_at(code, at))),
-            0x52 => self.add(memory),
-            0x53 => self.store(memory, Address(record::name_at(code, at))),
-            0x54 => self.jmp(memory, record::operand_at(code, at)),
-            0x55 => self.jmpless(memory, record::operand_at(code, at)),
-            _ => self.jmpge(memory, record::operand_at(code, at)),
+            record::MLOADI => self.loadi(memory, limits, record::operand_at(code, at)),
+            record::MLOAD => {
+                let z = value_at(memory, depth, Address(record::name_at(code, at)));
+                self.loadi(memory, limits, z)
+            }
+            record::MADD => self.add(memory, limits),
+            record::MSTORE => self.store_at(memory, limits, Address(record::name_at(code, at))),
+            record::MJMP => self.jumps(record::operand_at(code, at), self.size, last),
+            record::MJMPLESS => self.compare(memory, limits, true, record::operand_at(code, at)),
+            _ => self.compare(memory, limits, false, record::operand_at(code, at)),
+        }
+    }
+
+    // One step of assembly.
+    pub fn step_assembly(
+        self,
+        code: &[u8],
+        store: &mut [i32],
+        stack: &mut [i32],
+        last: usize,
+    ) -> Step
+        requires { ⌜ Ready self (upward (length (now stack)) last) (now stack) ⌝ }
+        requires { ⌜ AssemblyPassed last (now code) (now store) ⌝ }
+        ensures { λ r. ⌜ AssemblySteps self last (now (code .entry))
+            (assembly-of (now (store .entry)) (now (stack .entry)))
+            (step-of r (assembly-of (now (store .exit)) (now (stack .exit)))) ⌝ }
+    {
+        let limits = Limits {
+            layout: Layout::Upward,
+            depth: stack.len(),
+            last,
+        };
+        let at = self.position;
+        match record::byte_at(code, at) {
+            record::LOADI => self.loadi(stack, limits, record::operand_at(code, at)),
+            record::LOAD => {
+                let z = value_in(store, Variable(record::name_at(code, at)));
+                self.loadi(stack, limits, z)
+            }
+            record::ADD => self.add(stack, limits),
+            record::STORE => self.store_in(
+                store,
+                stack,
+                limits,
+                Variable(record::name_at(code, at)),
+            ),
+            record::JMP => self.jumps(record::operand_at(code, at), self.size, last),
+            record::JMPLESS => self.compare(stack, limits, true, record::operand_at(code, at)),
+            _ => self.compare(stack, limits, false, record::operand_at(code, at)),
+        }
+    }
+}
+
+impl Halted {
+    // What a call tells of the run: its end and its count.
+    pub fn answer(self) -> Run
+        ensures { λ r. ⌜ r ≡ Run.Ended (self .end) (self .machine .count) ⌝ }
+    {
+        let end = self.end;
+        Run::Ended {
+            end,
+            count: self.machine.count,
         }
     }
 }

@@ -1,14 +1,19 @@
 // For tests only: public calls whose answers are one number, so that programs in other languages can compare them. What
 // each answers is said by its own contract and by that of the function that packs it.
+use base::Count;
+use base::Run;
+use text::Reading;
 
 #[no_mangle]
 pub extern "C" fn probe_run_source(text: &[u8], store: &mut [i32], budget: u32) -> u64 {
-    packing::pack_run(interpreter::run_source(text, store, budget))
+    let run: Run = source_run::run_source(text, store, budget);
+    pod_packing::pack_run(run)
 }
 
 #[no_mangle]
 pub extern "C" fn probe_assemble(text: &[u8], out: &mut [u8]) -> u64 {
-    packing::pack_sizes(assembler::assemble(text, out))
+    let reading: Reading = compile_assembly::assemble(text, out);
+    pod_packing::pack_sizes(reading)
 }
 
 #[no_mangle]
@@ -18,12 +23,14 @@ pub extern "C" fn probe_run_assembly(
     stack: &mut [i32],
     budget: u32,
 ) -> u64 {
-    packing::pack_run(assembly::run_assembly(code, store, stack, budget))
+    let run: Run = assembly_run::run_assembly(code, store, stack, budget);
+    pod_packing::pack_run(run)
 }
 
 #[no_mangle]
 pub extern "C" fn probe_load(table: &[u8], store: &[i32], depth: u64, memory: &mut [i32]) -> u64 {
-    packing::pack_count(loader::load(table, store, depth, memory))
+    let count: Count = fitting_load::load(table, store, depth, memory);
+    pod_packing::pack_count(count)
 }
 
 #[no_mangle]
@@ -34,7 +41,8 @@ pub extern "C" fn probe_run_machine(
     cells: u64,
     budget: u32,
 ) -> u64 {
-    packing::pack_run(machine_code::run_machine(code, memory, depth, cells, budget))
+    let run: Run = machine_run::run_machine(code, memory, depth, cells, budget);
+    pod_packing::pack_run(run)
 }
 
 #[no_mangle]
@@ -44,5 +52,6 @@ pub extern "C" fn probe_read_back(
     depth: u64,
     store: &mut [i32],
 ) -> u64 {
-    packing::pack_count(loader::read_back(table, memory, depth, store))
+    let count: Count = fitting_load::read_back(table, memory, depth, store);
+    pod_packing::pack_count(count)
 }

@@ -3,71 +3,40 @@
 use mathlib.Core.Path.{_≡_, refl, sym, ap, _∙_}
 use mathlib.Core.Bool.{Bool, true, false, _&&_}
 use mathlib.Core.Option.{Option, none, some}
-use Prim.Native.Nat.{ℕ, zero, suc, _+_, _-_, _<_, _≤_}
+use Prim.Native.Nat.{ℕ, zero, suc, _-_, _<_, _≤_}
 use native.Mathlib.Omega.{arith}
 use lib.Dec.{eqb, leb, ltb}
 use lib.IntN.{ℤ, pos, negsuc}
 use mir.Syntax.{w32}
 use mir.Val.{SFits}
-use borrow.Author.Tests.{eqb-true, eqb-false, eq-eqb, ne-eqb, lt-ltb, le-ltb, lt-leb}
+use borrow.Author.Tests.{ne-eqb, lt-ltb, le-ltb, lt-leb}
 use Rattle.base.specs.Acts.{if_then_else_}
 use Rattle.word.specs.Numbers.{bits-of}
 use Rattle.record.specs.Bytes as Bytes
 use Rattle.record.specs.Bytes.{unknown, operation, name-of, option-map, is-zero, record-of}
-use Rattle.record.specs.Answers.{kind-of, is-some, numbered}
+use Rattle.record.specs.Code.{kind-of, is-some, numbered}
 use Rattle.record.specs.declared.Kind.{Kind}
+use Rattle.record.proofs.Reading.{by-number, by-none}
 
 -- ---- The byte
 
 -- Below the first byte nothing is known.
 pub below-first : (first b : ℕ) → b < first → operation first b ≡ unknown
-unfolding operation
 below-first first b h =
-    simp (
-      ne-eqb b first (λ e. omega arith),
-      ne-eqb b (first + 1) (λ e. omega arith),
-      ne-eqb b (first + 2) (λ e. omega arith),
-      ne-eqb b (first + 3) (λ e. omega arith),
-      ne-eqb b (first + 4) (λ e. omega arith),
-      ne-eqb b (first + 5) (λ e. omega arith),
-      ne-eqb b (first + 6) (λ e. omega arith),
-    )
-
--- Two equal tests
-same-test : (a b c d : ℕ) → (c ≡ d → a ≡ b) → (a ≡ b → c ≡ d) → eqb a b ≡ eqb c d
-same-test a b c d f g = by (eqb c d) refl
-  where
-    by : (t : Bool) → eqb c d ≡ t → eqb a b ≡ t
-    by true e = eq-eqb a b (f (eqb-true c d e))
-    by false e = ne-eqb a b (λ h. eqb-false c d e (g h))
+    by-none first b (λ e. omega arith) (λ e. omega arith) (λ e. omega arith) (λ e. omega arith) (λ e. omega arith)
+    (λ e. omega arith) (λ e. omega arith)
 
 -- From the first byte on, the distance is the number.
 pub from-first : (first b : ℕ) → first ≤ b → operation first b ≡ numbered (b - first)
 unfolding operation numbered
-from-first first b h =
-    simp (
-      same-test b first (b - first) 0 (λ e. omega arith) (λ e. omega arith),
-      same-test b (first + 1) (b - first) 1 (λ e. omega arith) (λ e. omega arith),
-      same-test b (first + 2) (b - first) 2 (λ e. omega arith) (λ e. omega arith),
-      same-test b (first + 3) (b - first) 3 (λ e. omega arith) (λ e. omega arith),
-      same-test b (first + 4) (b - first) 4 (λ e. omega arith) (λ e. omega arith),
-      same-test b (first + 5) (b - first) 5 (λ e. omega arith) (λ e. omega arith),
-      same-test b (first + 6) (b - first) 6 (λ e. omega arith) (λ e. omega arith),
-    )
+from-first first b h = by-number first b (b - first) (omega arith)
 
 -- Past JMPGE's number nothing is known.
 past-last : (j : ℕ) → 6 < j → numbered j ≡ unknown
-unfolding numbered
+unfolding operation numbered
 past-last j h =
-    simp (
-      ne-eqb j 0 (λ e. omega arith),
-      ne-eqb j 1 (λ e. omega arith),
-      ne-eqb j 2 (λ e. omega arith),
-      ne-eqb j 3 (λ e. omega arith),
-      ne-eqb j 4 (λ e. omega arith),
-      ne-eqb j 5 (λ e. omega arith),
-      ne-eqb j 6 (λ e. omega arith),
-    )
+    by-none 0 j (λ e. omega arith) (λ e. omega arith) (λ e. omega arith) (λ e. omega arith) (λ e. omega arith)
+    (λ e. omega arith) (λ e. omega arith)
 
 -- ---- The operand
 

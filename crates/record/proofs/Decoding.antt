@@ -37,24 +37,29 @@ lowest code i u e h =
     omega arith
 
 module _ {Name : Type 0} (k : Kind Name) where
-  -- A record that names u
-  record Named (make : Name → Record Name) (z : ℤ) (r : Record Name) : Type 0 where
-    name : ℕ
-    operand-is : z ≡ pos name
-    is-one : k .is-name name ≡ true
-    record-is : r ≡ make (k .name name)
+  -- A record that names something
+  pub record Named (make : Name → Record Name) (z : ℤ) (r : Record Name) : Type 0 where
+    pub name : ℕ
+    pub operand-is : z ≡ pos name
+    pub is-one : k .is-name name ≡ true
+    pub record-is : r ≡ make (k .name name)
 
   -- What is made of an operand that is a name
-  named : (make : Name → Record Name) (z : ℤ) (r : Record Name) → option-map make (name-of k z) ≡ some r
+  pub as-named : (make : Name → Record Name) (z : ℤ) (r : Record Name) → option-map make (name-of k z) ≡ some r
       → Named make z r
   unfolding option-map name-of
-  named make (pos u) r e = by (k .is-name u) refl e
+  as-named make (pos u) r e = by (k .is-name u) refl e
     where
       by : (b : Bool) → k .is-name u ≡ b → option-map make (if b then some (k .name u) else none) ≡ some r
           → Named make (pos u) r
       by true f e = record { name = u; operand-is = refl; is-one = f; record-is = cc }
       by false f e = absurd (let no : _≡_ {A = ℕ} 0 1 = cc in omega arith)
-  named make (negsuc u) r e = absurd (let no : _≡_ {A = ℕ} 0 1 = cc in omega arith)
+  as-named make (negsuc u) r e = absurd (let no : _≡_ {A = ℕ} 0 1 = cc in omega arith)
+
+-- What is made of an operand that must be 0
+pub as-add : {Name : Type 0} {r : Record Name} (b : Bool) → (if b then some ADD else none) ≡ some r → r ≡ ADD
+as-add true e = cc
+as-add false e = absurd (let no : _≡_ {A = ℕ} 0 1 = cc in omega arith)
 
 -- Variables are at most 63,
 pub variable-at-most : (u : ℕ) → assembly-kind .is-name u ≡ true → u ≤ 63
@@ -94,11 +99,9 @@ record-due k code P count i given h =
 
 -- Past the last there is none.
 pub none-due : {A : Type 0} (P : List A) (i : ℕ) → i ≡ length P → getElem? P i ≡ none
-none-due P i e = ap (getElem? P) e ∙ past P
-  where
-    past : {A : Type 0} (l : List A) → getElem? l (length l) ≡ none
-    past [] = refl
-    past (x ∷ l) = past l
+none-due [] i e = refl
+none-due (x ∷ P) zero e = absurd (omega arith)
+none-due (x ∷ P) (suc i) e = none-due P i (omega arith)
 
 module _ {Name : Type 0} (k : Kind Name) (code : List ℕ) (i : ℕ) (r : Record Name) (there : record-at k code i ≡ some r)
   where
@@ -129,20 +132,16 @@ module _ {Name : Type 0} (k : Kind Name) (code : List ℕ) (i : ℕ) (r : Record
     pub is-load : ((u : ℕ) → k .is-name u ≡ true → u < 256) → operation (k .first) byte ≡ load
         → (k .is-name low ≡ true) × (r ≡ LOAD (k .name low))
     unfolding record-of
-    is-load small e = lowest-named LOAD small (named k LOAD operand r (by-operation load e))
+    is-load small e = lowest-named LOAD small (as-named k LOAD operand r (by-operation load e))
 
     pub is-add : operation (k .first) byte ≡ add → r ≡ ADD
     unfolding record-of
-    is-add e = by (is-zero operand) (by-operation add e)
-      where
-        by : (b : Bool) → (if b then some ADD else none) ≡ some r → r ≡ ADD
-        by true e = cc
-        by false e = absurd (let no : _≡_ {A = ℕ} 0 1 = cc in omega arith)
+    is-add e = as-add (is-zero operand) (by-operation add e)
 
     pub is-store : ((u : ℕ) → k .is-name u ≡ true → u < 256) → operation (k .first) byte ≡ store
         → (k .is-name low ≡ true) × (r ≡ STORE (k .name low))
     unfolding record-of
-    is-store small e = lowest-named STORE small (named k STORE operand r (by-operation store e))
+    is-store small e = lowest-named STORE small (as-named k STORE operand r (by-operation store e))
 
     pub is-jmp : operation (k .first) byte ≡ jmp → r ≡ JMP operand
     unfolding record-of

@@ -1,3 +1,4 @@
+pub mod Cases
 pub mod Bytes
 pub mod Reading
 pub mod Tested
@@ -5,3 +6,5 @@ pub mod Written
 pub mod ByNumbers
 pub mod Testing
 pub mod Decoding
+pub mod Buffer
+pub mod Filling

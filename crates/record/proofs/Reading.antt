@@ -8,6 +8,7 @@ use Prim.Native.Nat.{ℕ, zero, suc, _+_, _*_, _<_}
 use native.Mathlib.Nat.{zero-add, suc-add, add-zero}
 use native.Mathlib.Numerals.{one-add}
 use native.Mathlib.Omega.{arith}
+use borrow.Author.Tests.{ne-eqb}
 use lib.Dec.{eqb, eqb·suc-suc}
 use lib.IntN.{ℤ, pos}
 use lib.ListN.{length, getD, getElem?}
@@ -19,7 +20,7 @@ use Rattle.word.specs.Numbers.{number-of, number-at, bytes-of}
 use Rattle.word.proofs.Claims.{number-of-bytes}
 use Rattle.record.specs.Records.{Record, LOADI, LOAD, ADD, STORE, JMP, JMPLESS, JMPGE}
 use Rattle.record.specs.Bytes.{Kind, assembly-kind, machine-kind, first-byte, operand, record-bytes, code-bytes}
-use Rattle.record.specs.Bytes.{Operation, loadi, load, add, store, jmp, jmpless, jmpge, operation}
+use Rattle.record.specs.Bytes.{Operation, loadi, load, add, store, jmp, jmpless, jmpge, unknown, operation}
 use Rattle.record.specs.Bytes.{name-of, option-map, is-zero, record-of, record-at}
 use Rattle.record.specs.Claims.{NameFits, RecordFits, CodeFits}
 
@@ -53,18 +54,32 @@ number-behind front code m n e = λ t.
 -- ---- The byte
 
 -- Two numbers above the same one are equal where what is added is.
-pub above : (first i j : ℕ) → eqb (first + i) (first + j) ≡ eqb i j
+above : (first i j : ℕ) → eqb (first + i) (first + j) ≡ eqb i j
 above zero i j = ap₂ eqb (zero-add i) (zero-add j)
 above (suc first) i j =
     ap₂ eqb (suc-add first i) (suc-add first j) ∙ eqb·suc-suc (first + i) (first + j) ∙ above first i j
 
 -- The same of the lowest and another,
-pub above-first : (first i : ℕ) → eqb (first + i) first ≡ eqb i 0
+above-first : (first i : ℕ) → eqb (first + i) first ≡ eqb i 0
 above-first first i = ap (eqb (first + i)) (sym (add-zero first)) ∙ above first i 0
 
 -- and of the lowest and itself.
 first-first : (first : ℕ) → eqb first first ≡ true
 first-first first = ap₂ eqb (sym (add-zero first)) (sym (add-zero first)) ∙ above first 0 0
+
+-- A byte stands for what its number above the first stands for;
+pub by-number : (first byte j : ℕ) → byte ≡ first + j → operation first byte ≡ operation 0 j
+unfolding operation
+by-number first byte j e = rw e (simp (above, above-first))
+
+-- any other byte stands for nothing.
+pub by-none : (first byte : ℕ) → (byte ≡ first → ⊥) → (byte ≡ first + 1 → ⊥) → (byte ≡ first + 2 → ⊥)
+    → (byte ≡ first + 3 → ⊥) → (byte ≡ first + 4 → ⊥) → (byte ≡ first + 5 → ⊥) → (byte ≡ first + 6 → ⊥)
+    → operation first byte ≡ unknown
+unfolding operation
+by-none first byte h0 h1 h2 h3 h4 h5 h6 =
+    simp
+    (ne-eqb _ _ h0, ne-eqb _ _ h1, ne-eqb _ _ h2, ne-eqb _ _ h3, ne-eqb _ _ h4, ne-eqb _ _ h5, ne-eqb _ _ h6)
 
 -- What a record does
 abbrev operation-in : {Name : Type 0} → Record Name → Operation

@@ -5,16 +5,13 @@ use mathlib.Core.List.{List, [], _∷_}
 use mathlib.Core.Logic.{⊎-elim}
 use mathlib.Core.Option.{Option, none, some}
 use Prim.Native.Nat.{ℕ, zero, suc, _+_, _<_, _≤_}
-use native.Mathlib.Nat.{add-zero, eq-or-lt-of-le}
+use native.Mathlib.Nat.{add-zero, add-suc, suc-add, eq-or-lt-of-le}
 use native.Mathlib.Omega.{arith}
 use lib.ListN.{length, getElem?}
 use Rattle.base.specs.Answers.{Answer, gives, refused, and-then}
+use Rattle.base.proofs.Settled.{not-both}
 use Rattle.record.specs.Records.{Record}
 use Rattle.record.specs.Bytes.{Kind, record-at, in-front, records-from}
-
--- What is given is not refused.
-not-both : {A : Type 0} {a : A} {number place : ℕ} → gives a ≡ refused number place → ⊥
-not-both e = let no : _≡_ {A = ℕ} 0 1 = cc in omega arith
 
 -- The first of the records given, and those after it
 record Taken {Name : Type 0} (first : Option (Record Name)) (rest : Answer (List (Record Name)))
@@ -29,15 +26,15 @@ record Taken {Name : Type 0} (first : Option (Record Name)) (rest : Answer (List
 taken : {Name : Type 0} (i : ℕ) (first : Option (Record Name)) (rest : Answer (List (Record Name)))
     (P : List (Record Name)) → in-front i first rest ≡ gives P → Taken first rest P
 unfolding in-front and-then
-taken i none rest P e = absurd (not-both (sym e))
+taken i none rest P e = not-both e
 taken i (some r) (gives Q) P e = record { head = r; tail = Q; first-is = refl; rest-is = refl; all-are = cc }
-taken i (some r) (refused number place) P e = absurd (not-both (sym e))
+taken i (some r) (refused number place) P e = not-both e
 
 -- Behind a record, a refusal is one of the records after it.
 refused-behind : {Name : Type 0} (i : ℕ) (r : Record Name) (rest : Answer (List (Record Name))) {number place : ℕ}
     → in-front i (some r) rest ≡ refused number place → rest ≡ refused number place
 unfolding in-front and-then
-refused-behind i r (gives Q) e = absurd (not-both e)
+refused-behind i r (gives Q) e = not-both (sym e)
 refused-behind i r (refused number place) e = e
 
 -- Each index from i to below `place` holds a record.
@@ -52,10 +49,6 @@ FirstRefused k code i count number place =
     × (place < i + count)
     × (record-at k code place ≡ none)
     × Filled k code i place
-
--- One index on
-one-on : (i j : ℕ) → suc i + j ≡ i + suc j
-one-on i j = omega arith
 
 module _ {Name : Type 0} (k : Kind Name) (code : List ℕ) where
   -- As many records are given as were asked for.
@@ -77,7 +70,7 @@ module _ {Name : Type 0} (k : Kind Name) (code : List ℕ) where
       rw (t .all-are, add-zero) (t .first-is)
   records-at i (suc count) {P} e (suc j) h =
       let t = taken i (record-at k code i) (records-from k code (suc i) count) P e in
-      rw (t .all-are, ← one-on i j) (records-at (suc i) count (t .rest-is) j (omega arith))
+      rw (t .all-are, add-suc i j, ← suc-add) (records-at (suc i) count (t .rest-is) j (omega arith))
 
   -- The other way: records that stand at the indices from i on are given.
   pub records-given : (i : ℕ) (P : List (Record Name))
@@ -89,7 +82,7 @@ module _ {Name : Type 0} (k : Kind Name) (code : List ℕ) where
       ap₂
       (in-front i)
       (rw add-zero at (h 0 (omega arith)))
-      (records-given (suc i) P (λ j b. rw (one-on i j) (h (suc j) (omega arith))))
+      (records-given (suc i) P (λ j b. rw (suc-add, ← add-suc) (h (suc j) (omega arith))))
 
   -- A record at index i fills one index more.
   filled : (i place : ℕ) {r : Record Name} → record-at k code i ≡ some r → Filled k code (suc i) place
@@ -104,7 +97,7 @@ module _ {Name : Type 0} (k : Kind Name) (code : List ℕ) where
   pub first-refused : (i count : ℕ) {number place : ℕ} → records-from k code i count ≡ refused number place
       → FirstRefused k code i count number place
   unfolding records-from in-front
-  first-refused i zero e = absurd (not-both e)
+  first-refused i zero e = not-both (sym e)
   first-refused i (suc count) {number} {place} e = by (record-at k code i) refl e (λ q. first-refused (suc i) count q)
     where
       by : (first : Option (Record Name)) → record-at k code i ≡ first

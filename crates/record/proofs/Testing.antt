@@ -17,12 +17,12 @@ use Rattle.record.specs.Records.{Record, LOAD, ADD, STORE, rename}
 use Rattle.record.specs.Bytes as Bytes
 use Rattle.record.specs.Bytes.{assembly-kind, machine-kind, name-of, option-map, is-zero}
 use Rattle.record.specs.Bytes.{Operation, loadi, load, add, store, jmp, jmpless, jmpge, unknown, operation}
-use Rattle.record.specs.Bytes.{record-of, record-at, record-count, whole, in-front, records-from}
-use Rattle.record.specs.Answers.{kind-of, assembly-numbers, machine-numbers, Told, is-some, Tested}
+use Rattle.record.specs.Bytes.{record-of, record-at, record-count, whole-records, in-front, records-from}
+use Rattle.record.specs.Code.{kind-of, assembly-numbers, machine-numbers, Told, is-some, Tested}
 use Rattle.record.specs.declared.Kind.{Kind}
 
 -- Code of whole records has at most 4,096.
-pub few-records : (code : List ℕ) → whole code ≡ true → record-count code ≤ 4096
+pub few-records : (code : List ℕ) → whole-records code ≡ true → record-count code ≤ 4096
 few-records code e = by (eqb (length code % 5) 0) e
   where
     by : (b : Bool) → (b && leb (record-count code) 4096) ≡ true → record-count code ≤ 4096

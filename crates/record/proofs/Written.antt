@@ -9,7 +9,7 @@ use lib.ListN.{length}
 use borrow.Author.Tests.{eq-eqb, le-leb}
 use Rattle.base.specs.Answers.{gives}
 use Rattle.record.specs.Records.{Record}
-use Rattle.record.specs.Bytes.{Kind, assembly-kind, machine-kind, code-bytes, record-count, whole}
+use Rattle.record.specs.Bytes.{Kind, assembly-kind, machine-kind, code-bytes, record-count, whole-records}
 use Rattle.record.specs.Bytes.{records-from}
 use Rattle.record.specs.Claims.{CodeFits, ReadsWritten, Written}
 use Rattle.record.proofs.Bytes.{five-bytes}
@@ -22,7 +22,7 @@ module _ {Name : Type 0} (k : Kind Name) (P : List (Record Name)) where
   count-written = omega (arith, five-bytes Name k P)
 
   -- Written code is whole records, and few enough if its records are.
-  pub whole-written : length P ≤ 4096 → whole (code-bytes k P) ≡ true
+  pub whole-written : length P ≤ 4096 → whole-records (code-bytes k P) ≡ true
   whole-written h =
       ap₂ _&&_
       (eq-eqb (length (code-bytes k P) % 5) 0 (omega (arith, five-bytes Name k P)))

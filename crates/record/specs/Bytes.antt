@@ -115,8 +115,8 @@ record-at k code i = record-of k (operation (k .first) (getD code (5 * i) 0)) (n
 abbrev pub record-count : List ℕ → ℕ
 record-count code = length code / 5
 
-abbrev pub whole : List ℕ → Bool
-whole code = eqb (length code % 5) 0 && leb (record-count code) 4096
+abbrev pub whole-records : List ℕ → Bool
+whole-records code = eqb (length code % 5) 0 && leb (record-count code) 4096
 
 -- A record in front of the records after it; 10 at its index, if it is none
 unfoldable pub in-front : {Name : Type 0} → ℕ → Option (Record Name) → Answer (List (Record Name))

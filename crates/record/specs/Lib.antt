@@ -1,4 +1,6 @@
 pub mod Records
 pub mod Bytes
+pub mod Buffer
 pub mod Claims
-pub mod Answers
+pub mod Cases
+pub mod Code

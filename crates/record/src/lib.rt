@@ -1,12 +1,14 @@
 // Records of both kinds: the test of code, and what stands at an index of code that passed it.
 ghost use mathlib.Core.Path.{_≡_};
 ghost use mathlib.Core.Bool.{_&&_};
+ghost use mathlib.Core.List.{_∷_};
 ghost use Prim.Native.Nat.{_+_, _*_, _<_, _≤_};
 ghost use lib.Dec.{ltb, leb};
 ghost use lib.ListN.{length, getD};
-ghost use Rattle.word.specs.Numbers.{number-at};
-ghost use Rattle.record.specs.Bytes.{record-of, operation, whole};
-ghost use Rattle.record.specs.Answers.{kind-of, assembly-numbers, machine-numbers, is-some, numbered, Tested};
+ghost use Rattle.word.specs.Numbers.{number-at, bytes-of};
+ghost use Rattle.record.specs.Buffer.{into};
+ghost use Rattle.record.specs.Bytes.{record-of, operation, whole-records};
+ghost use Rattle.record.specs.Code.{kind-of, assembly-numbers, machine-numbers, is-some, numbered, Tested};
 
 // What LOAD and STORE name: a variable number (0 to 63) in assembly, an address (1 to n) in machine code.
 // Neither can be given for the other.
@@ -20,6 +22,38 @@ pub const RECORD_BYTES: usize = 5;
 // The most records in one code.
 pub const MOST_RECORDS: usize = 4096;
 
+// ---- The first byte of each record: of assembly, and of machine code, whose names have M in front
+
+pub const LOADI: u8 = 0x40;
+
+pub const LOAD: u8 = 0x41;
+
+pub const ADD: u8 = 0x42;
+
+pub const STORE: u8 = 0x43;
+
+pub const JMP: u8 = 0x44;
+
+pub const JMPLESS: u8 = 0x45;
+
+pub const JMPGE: u8 = 0x46;
+
+pub const MLOADI: u8 = 0x50;
+
+pub const MLOAD: u8 = 0x51;
+
+pub const MADD: u8 = 0x52;
+
+pub const MSTORE: u8 = 0x53;
+
+pub const MJMP: u8 = 0x54;
+
+pub const MJMPLESS: u8 = 0x55;
+
+pub const MJMPGE: u8 = 0x56;
+
+// ---- Kinds
+
 // A kind of record: the byte of its LOADI, and the least and the greatest number that is a name.
 pub struct Kind {
     pub first: u8,
@@ -29,7 +63,7 @@ pub struct Kind {
 
 // Refusal 9's test: whole records, and at most 4,096 of them.
 pub fn is_whole(code: &[u8]) -> bool
-    ensures { λ r. ⌜ r ≡ whole (now (code .entry)) ⌝ }
+    ensures { λ r. ⌜ r ≡ whole-records (now (code .entry)) ⌝ }
 {
     if code.len() % RECORD_BYTES != 0 {
         return false;
@@ -67,15 +101,33 @@ pub fn name_at(code: &[u8], i: usize) -> usize
     wide(code[RECORD_BYTES * i + 1])
 }
 
+// ---- Writing
+
+// One record at an index: its first byte and its operand. Every other byte stays as it was.
+pub fn put_record(out: &mut [u8], index: usize, first: u8, operand: i32)
+    requires { ⌜ 5 * index + 5 ≤ length (now out) ⌝ }
+    ensures { λ _. ⌜ now (out .exit) ≡ into (5 * index) (first ∷ bytes-of operand) (now (out .entry)) ⌝ }
+{
+    let at = RECORD_BYTES * index;
+    let bytes = word::bytes(operand);
+    out[at] = first;
+    out[at + 1] = bytes[0];
+    out[at + 2] = bytes[1];
+    out[at + 3] = bytes[2];
+    out[at + 4] = bytes[3];
+}
+
+// ---- The test of code
+
 impl Kind {
     // Variables count from 0 to 63.
     pub fn assembly() -> Self
         ensures { λ r. ⌜ r ≡ assembly-numbers ⌝ }
     {
         Self {
-            first: 0x40,
+            first: LOADI,
             least: 0,
-            most: 63,
+            most: base::LAST_VARIABLE as u64,
         }
     }
 
@@ -84,7 +136,7 @@ impl Kind {
         ensures { λ r. ⌜ r ≡ machine-numbers n ⌝ }
     {
         Self {
-            first: 0x50,
+            first: MLOADI,
             least: 1,
             most: n,
         }

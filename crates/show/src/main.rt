@@ -41,14 +41,16 @@ fn read_input(buffer: &mut [u8]) -> Input
 }
 
 // One byte more than the longest text: where all of them are read, the text is too long, however long it is.
+const INPUT_BYTES: usize = text::LONGEST + 1;
+
 fn main() {
-    let mut text = [0u8; 4097];
+    let mut text = [0u8; INPUT_BYTES];
     let Input::Read(length) = read_input(&mut text) else {
         os::fail(b"show: cannot read standard input");
         return;
     };
-    let mut out = renderer::output_buffer();
-    let size = renderer::render(&text[..length], &mut out);
+    let mut out = print_render::output_buffer();
+    let size = print_render::render(&text[..length], &mut out);
     if !io::write_all(STDOUT_FILENO, &out[..size]) {
         os::fail(b"show: cannot write to standard output");
     }

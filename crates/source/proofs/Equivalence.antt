@@ -1,4 +1,4 @@
--- The source rules with ticks and the published big-step rules lead to the same stores (Claims: Published).
+-- The source rules with ticks and the published big-step rules lead to the same stores (Claims: PublishedBy).
 use mathlib.Core.Path.{_≡_, refl, sym, _∙_, ap, subst}
 use mathlib.Core.Logic.{_⊎_, inl, inr}
 use Prim.Native.Nat.{ℕ, zero, suc, _+_, _≤_}
@@ -19,7 +19,7 @@ use Rattle.source.proofs.Passes.{Ends, ends-then, ends-tick, ends-step,
 use Rattle.source.proofs.Passes.{while-unfold}
 use Rattle.source.specs.BigStep.{aval, bval, BigStep, skip, assigns, seq, if-true, if-false, while-false}
 use Rattle.source.specs.BigStep.{while-true}
-use Rattle.source.specs.Claims.{Published}
+use Rattle.source.specs.Claims.{PublishedBy}
 use Rattle.source.specs.Rules.{Early, State, Store, state, Rule, Outcomes, charge, tick, cell, assign, total}
 use Rattle.source.specs.Rules.{add, value, truth, loop, exec}
 
@@ -228,8 +228,8 @@ module _ (sum : SumRule) (exact : Exact sum) where
       (gives-then (exec sum c₁) (λ _. tick >> w) s t u tt tt (bigstep-gives c₁ s t x)
       (gives-step w t u tt (bigstep-gives (WHILE b DO c₁) t u y))))
 
-  pub published : Published sum
-  published c s fine t = ((λ (n, n′, e). done-bigstep sum exact c n n′ s t e), (λ x. pick (bigstep-gives c s t x)))
+  pub published-by : PublishedBy sum
+  published-by c s fine t = ((λ (n, n′, e). done-bigstep sum exact c n n′ s t e), (λ x. pick (bigstep-gives c s t x)))
     where
       pick-at : (k : ℕ) → Yields (exec sum c (state (k + 0) s)) tt 0 t
           → (n : ℕ) × (n′ : ℕ) × (exec sum c (state n s) ≡ ok tt (state n′ t))

@@ -14,6 +14,7 @@ use Rattle.text.specs.Syntax.{Expression, Constant, Variable, Plus, Condition, 
 use Rattle.text.specs.Syntax.{_:=_, _⨾_, IF_THEN_ELSE_, WHILE_DO_}
 use Rattle.source.specs.Rules.{State, Store, state, Rule, Outcomes, charge, tick, cell, assign, total, add}
 use Rattle.source.specs.Rules.{value, truth, loop, exec}
+use Rattle.source.specs.Claims.{Again}
 
 -- what an outcome that is no end owes
 abbrev pub Ends : {A : Type 0} → Outcomes A → (A → State → Type 0) → Type 0
@@ -155,3 +156,6 @@ module _ (sum : SumRule) where
   unfolding loop exec
   while-unfold b c n s =
       pass-cong b c _ _ n s (λ n′ t k. loop-passes b c n (suc n′) n′ t (omega arith) (omega arith))
+
+  pub again : Again sum
+  again b c s = while-unfold b c (s .left) (s .store)

@@ -19,10 +19,10 @@ use Rattle.source.specs.Calls.{run-source}
 use Rattle.source.specs.Claims.{Published, PublishedTexts}
 use Rattle.source.specs.Rules.{Early, Store, Outcomes, state, exec, end-of, result-of, run-rules}
 use Rattle.source.proofs.Calls.{source-runs}
-use Rattle.source.proofs.Equivalence.{published}
+use Rattle.source.proofs.Equivalence.{published-by}
 
-pub published32 : Published sum32
-published32 = published sum32 sum32-exact
+pub published : Published
+published = published-by sum32 sum32-exact
 
 -- an outcome whose result is done
 done-outcome : (x : Outcomes (Unit {0})) → result-of x .end ≡ End.done
@@ -64,7 +64,7 @@ module _ (text : List ℕ) (c : Command) (read : read-text text ≡ gives c) (s 
   same-stores fine t = (to, back)
     where
       rules : ((n : ℕ) × (n′ : ℕ) × (exec sum32 c (state n s) ≡ ok tt (state n′ t))) ↔ BigStep c s t
-      rules = published32 c s (λ n u e. fine n (n - u .left) (u .store) (told n ∙ ap (telling n) e)) t
+      rules = published c s (λ n u e. fine n (n - u .left) (u .store) (told n ∙ ap (telling n) e)) t
 
       to : ((budget : ℕ) × (k : ℕ) × (run-source text s budget ≡ (gives (record { end = End.done; count = k }), t)))
           → BigStep c s t

@@ -1,33 +1,47 @@
 -- What is claimed of the source rules. The proof of the same spelling stands in proofs/.
--- They lead to the stores to which the published big-step rules lead, wherever no budget ends out of range; and two rules
--- for sums that agree give the same runs.
+-- WHILE is the printed rule; the source rules lead to the stores to which the published big-step rules lead, wherever no
+-- budget ends out of range; and two rules for sums that agree give the same runs.
 use mathlib.Core.Path.{_≡_}
 use mathlib.Core.Logic.{_↔_}
+use mathlib.Core.Bool.{false}
 use Prim.Native.Nat.{ℕ}
 use mathlib.Core.List.{List}
 use lib.IntN.{ℤ}
 use lib.ListN.{length}
-use Rattle.base.specs.Acts.{ok, ended}
+use Rattle.base.specs.Acts.{ok, ended, _>>=_, _>>_, give, if_then_else_}
 use Rattle.base.specs.Answers.{gives}
 use Rattle.base.specs.Ends.{Fault, End, fault}
-use Rattle.word.specs.Sums.{SumRule}
+use Rattle.word.specs.Sums.{SumRule, sum32}
 use Rattle.word.specs.declared.Sum.the-variants.{Fits}
-use Rattle.text.specs.Syntax.{Command}
+use Rattle.text.specs.Syntax.{Condition, Command, WHILE_DO_}
 use Rattle.text.specs.Reading.{read-text}
 use Rattle.source.specs.BigStep.{BigStep}
 use Rattle.source.specs.Calls.{run-source}
-use Rattle.source.specs.Rules.{Early, State, Store, state, exec}
+use Rattle.source.specs.Rules.{Early, State, Store, state, tick, truth, exec}
+
+-- ---- WHILE
+
+-- "WHILE: the condition; if true the body, one tick, and again". The rule itself: `exec` allows so many passes that the
+-- bound is never met.
+abbrev pub Again : SumRule → Type 0
+Again sum = (b : Condition) (c : Command) (s : State)
+    → exec sum (WHILE b DO c) s
+    ≡ (do t ← truth sum b false; if t then (do exec sum c; tick; exec sum (WHILE b DO c)) else give tt) s
 
 -- ---- The published big-step rules
 
 -- "For a text and starting store for which no budget ends out of range, some budget ends done (budgets in this sentence
 -- being of any size) with a store exactly when the published big-step rules lead to that store."
-abbrev pub Published : SumRule → Type 0
-Published sum = (c : Command) (s : Store)
+abbrev pub PublishedBy : SumRule → Type 0
+PublishedBy sum = (c : Command) (s : Store)
     → ((n : ℕ) (u : State) → exec sum c (state n s) ≡ ended (Early.out-of-range, u) → ⊥)
     → (t : Store) → ((n : ℕ) × (n′ : ℕ) × (exec sum c (state n s) ≡ ok tt (state n′ t))) ↔ BigStep c s t
 
--- The same of texts and of the call run_source.
+-- By document 01's rule for sums, which all calls name.
+abbrev pub Published : Type 0
+Published = PublishedBy sum32
+
+-- The same of texts and of the call run_source, which runs by that rule.
 pub record PublishedText (text : List ℕ) (c : Command) (s : Store) : Type 0 where
   pub same :
       ((budget k : ℕ) (u : Store)

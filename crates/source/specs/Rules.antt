@@ -57,7 +57,7 @@ unfoldable pub total : Sum → Rule ℤ
 total (Fits z) s = ok z s
 total Out s = ended (out-of-range, s)
 
--- The sum rule may look at the ticks left after the sum's tick
+-- The rule for sums is a parameter, and gets the ticks left after the sum's tick (word/specs/Sums says why)
 module _ (sum : SumRule) where
   unfoldable pub add : ℤ → ℤ → Rule ℤ
   add x y s = total (sum (s .left) x y) s
@@ -84,7 +84,7 @@ module _ (sum : SumRule) where
 
   -- "SKIP: none. Assign: the expression, then one tick to store. Sequence: one after the other. IF: the condition, the
   -- branch, then one tick if the branch was the first." The flag is "false for IF and WHILE". A pass of WHILE costs
-  -- a tick at least, so one more pass than there are ticks left is enough
+  -- a tick at least, so one more pass than there are ticks left is enough (Claims: Again)
   unfoldable pub exec : Command → Rule (Unit {0})
   exec SKIP = give tt
   exec (v := a) = do z ← value a; tick; assign v z

@@ -12,7 +12,8 @@ use borrow.Author.Tests.{leb-true, le-leb}
 use Rattle.base.specs.Acts.{Outcome}
 use Rattle.base.specs.Answers.{Answer, gives, refused, unless_refuse_at_else_}
 use Rattle.text.specs.Syntax.{Command}
-use Rattle.text.specs.Reading.{Refusal, whole, read-text}
+use Rattle.base.specs.Answers.{Refusal}
+use Rattle.text.specs.Reading.{all-read, read-text}
 use Rattle.text.specs.Encoding.{Bytes, command-bytes, Within}
 use Rattle.text.specs.Claims.{Accepted, OneCommand, Declined, OneAnswer}
 use Rattle.text.proofs.Standing.{commands, Stands, whole-text, own-bytes, still-inside}
@@ -21,7 +22,7 @@ use Rattle.text.proofs.Decoded.{Fine, goes, ends, command-decoded}
 
 -- A command within the limits is read from its bytes.
 pub encoded : (c : Command) → Within c → read-text (command-bytes c) ≡ gives c
-unfolding read-text whole
+unfolding read-text all-read
 encoded c w =
     let text : List ℕ = command-bytes c in
     rw (
@@ -44,8 +45,8 @@ settled-unless text false number place rest h g = g
 
 -- A whole text: its command's bytes end where the text ends, or there are bytes left over.
 settled-whole : (text : List ℕ) {o : Outcome ℕ Refusal Command} → length text ≤ 4096
-    → Fine text (Stands commands text 64 0) o → Settled text (whole text o)
-unfolding whole
+    → Fine text (Stands commands text 64 0) o → Settled text (all-read text o)
+unfolding all-read
 settled-whole text n (goes {a = c} {j = j} s) =
     let inside : j ≤ length text = still-inside text (command-bytes c) 0 j (omega arith) (s .holds) in
     settled-unless text (leb (length text) j) 5 j (gives c)

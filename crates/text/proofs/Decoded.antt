@@ -14,7 +14,8 @@ use Rattle.word.specs.Numbers.{number-at}
 use Rattle.word.proofs.Claims.{bytes-of-number, numbers-fit}
 use Rattle.text.specs.Syntax.{Constant, Variable, Plus, Bc, Not, And, Less}
 use Rattle.text.specs.Syntax.{SKIP, _:=_, _⨾_, IF_THEN_ELSE_, WHILE_DO_}
-use Rattle.text.specs.Reading.{Refusal, refusal, Reader, ExpressionByte, expression-byte, ConditionByte}
+use Rattle.base.specs.Answers.{Refusal, refusal}
+use Rattle.text.specs.Reading.{Reader, ExpressionByte, expression-byte, ConditionByte}
 use Rattle.text.specs.Reading.{condition-byte, CommandByte, command-byte, decline, there, due, pass, operand}
 use Rattle.text.specs.Reading.{four, number, expression-of, expression, condition-of, condition, command-of}
 use Rattle.text.specs.Reading.{command}
@@ -31,7 +32,7 @@ pub data Fine (text : List ℕ) {A : Type 0} (Q : A → ℕ → Type 0) : Outcom
 
 -- What is read, from any position, stands there.
 abbrev pub Finds : {A : Type 0} → Kind A → List ℕ → ℕ → Reader A → Type 0
-Finds K text left r = (i : ℕ) → Fine text (Stands K text left i) (r i)
+Finds K text nest r = (i : ℕ) → Fine text (Stands K text nest i) (r i)
 
 -- A construct of kind M is parts of kind K after the byte b, with one nesting more.
 abbrev Makes : {P A : Type 0} → Kind P → Kind A → ℕ → (P → A) → Type 0
@@ -79,11 +80,11 @@ module _ (text : List ℕ) where
 
   -- ---- Operands
 
-  operand-decoded : (most left : ℕ) → Finds (operands most) text left (operand text most)
+  operand-decoded : (most nest : ℕ) → Finds (operands most) text nest (operand text most)
   unfolding Holds operand due pass give then′
-  operand-decoded most left i =
+  operand-decoded most nest i =
       enough 1 i _ (λ w.
-      either (λ (r : Reader ℕ). Fine text (Stands (operands most) text left i) (r i)) (leb (getD text i 0) most)
+      either (λ (r : Reader ℕ). Fine text (Stands (operands most) text nest i) (r i)) (leb (getD text i 0) most)
       (λ e. goes (record { holds = (omega arith, refl, refl); valid = leb-true _ most e; nested = omega arith }))
       (declines 3 i (omega arith)))
 
@@ -96,9 +97,9 @@ module _ (text : List ℕ) where
       let third : i + 1 + 1 + 1 ≡ i + 3 = omega arith in
       (omega arith, refl, (omega arith, refl, (omega arith, cc, (omega arith, cc, omega arith))))
 
-  number-decoded : Bytes text → (left : ℕ) → Finds numbers text left (number text)
+  number-decoded : Bytes text → (nest : ℕ) → Finds numbers text nest (number text)
   unfolding number four then′ number-at
-  number-decoded small left i =
+  number-decoded small nest i =
       enough 4 i _ (λ w. goes (record {
         holds = rw (bytes-of-number _ _ _ _ (small i) (small (i + 1)) (small (i + 2)) (small (i + 3))) (bytes-at i w);
         valid = numbers-fit _ _ _ _ (small i) (small (i + 1)) (small (i + 2)) (small (i + 3));
@@ -112,8 +113,8 @@ module _ (text : List ℕ) where
   Opens i b = (i < length text) × (getD text i 0 ≡ b)
 
   -- A construct stands where its first byte stands and then its parts.
-  made : {P A : Type 0} {K : Kind P} {M : Kind A} {b left i j : ℕ} {p : P} (f : P → A)
-      → Opens i b → Makes K M b f → Stands K text left (i + 1) p j → Stands M text (suc left) i (f p) j
+  made : {P A : Type 0} {K : Kind P} {M : Kind A} {b nest i j : ℕ} {p : P} (f : P → A)
+      → Opens i b → Makes K M b f → Stands K text nest (i + 1) p j → Stands M text (suc nest) i (f p) j
   unfolding Holds
   made {p = p} f o m s = record {
     holds = rw (m p (s .valid) .0) (o .0, o .1, s .holds);
@@ -121,29 +122,29 @@ module _ (text : List ℕ) where
     nested = omega (arith, m p (s .valid) .2);
   }
 
-  skip : {left i : ℕ} → Opens i 0x00 → Fine text (Stands commands text (suc left) i) ((do pass text 1; give SKIP) i)
+  skip : {nest i : ℕ} → Opens i 0x00 → Fine text (Stands commands text (suc nest) i) ((do pass text 1; give SKIP) i)
   unfolding Holds pass give then′ command-bytes Valid nesting
   skip {i = i} o =
       goes {a = SKIP} {j = i + 1} (record { holds = (o .0, o .1, refl); valid = tt; nested = omega arith })
 
-  one : {A B : Type 0} {K : Kind A} {M : Kind B} {r : Reader A} {b left i : ℕ} (f : A → B) → Opens i b
-      → Makes K M b f → Finds K text left r
-      → Fine text (Stands M text (suc left) i) ((do pass text 1; x ← r; give (f x)) i)
+  one : {A B : Type 0} {K : Kind A} {M : Kind B} {r : Reader A} {b nest i : ℕ} (f : A → B) → Opens i b
+      → Makes K M b f → Finds K text nest r
+      → Fine text (Stands M text (suc nest) i) ((do pass text 1; x ← r; give (f x)) i)
   unfolding pass give then′
   one {i = i} f o m h = on (h (i + 1)) (λ x j s. goes (made f o m s))
 
-  two : {A B C : Type 0} {K : Kind A} {L : Kind B} {M : Kind C} {r : Reader A} {s : Reader B} {b left i : ℕ}
+  two : {A B C : Type 0} {K : Kind A} {L : Kind B} {M : Kind C} {r : Reader A} {s : Reader B} {b nest i : ℕ}
       (f : A → B → C) → Opens i b → Makes (pairs K L) M b (λ p. f (p .0) (p .1))
-      → Finds K text left r → Finds L text left s
-      → Fine text (Stands M text (suc left) i) ((do pass text 1; x ← r; y ← s; give (f x y)) i)
+      → Finds K text nest r → Finds L text nest s
+      → Fine text (Stands M text (suc nest) i) ((do pass text 1; x ← r; y ← s; give (f x y)) i)
   unfolding pass give then′
   two {i = i} f o m h g = on (h (i + 1)) (λ x j s. on (g j) (λ y k t. goes (made _ o m (both s t))))
 
   three : {A B C D : Type 0} {K : Kind A} {L : Kind B} {N : Kind C} {M : Kind D} {r : Reader A} {s : Reader B}
-      {t : Reader C} {b left i : ℕ} (f : A → B → C → D) → Opens i b
+      {t : Reader C} {b nest i : ℕ} (f : A → B → C → D) → Opens i b
       → Makes (pairs K (pairs L N)) M b (λ p. f (p .0) (p .1 .0) (p .1 .1))
-      → Finds K text left r → Finds L text left s → Finds N text left t
-      → Fine text (Stands M text (suc left) i) ((do pass text 1; x ← r; y ← s; z ← t; give (f x y z)) i)
+      → Finds K text nest r → Finds L text nest s → Finds N text nest t
+      → Fine text (Stands M text (suc nest) i) ((do pass text 1; x ← r; y ← s; z ← t; give (f x y z)) i)
   unfolding pass give then′
   three {i = i} f o m h g e =
       on (h (i + 1)) (λ x j s. on (g j) (λ y k t. on (e k) (λ z l u. goes (made _ o m (both s (both t u))))))
@@ -163,46 +164,46 @@ module _ (text : List ℕ) where
   -- ---- Constructs, by induction on the nesting left
 
   module _ (small : Bytes text) where
-    pub expression-decoded : (left : ℕ) → Finds expressions text left (expression text left)
+    pub expression-decoded : (nest : ℕ) → Finds expressions text nest (expression text nest)
     unfolding expression expression-of expression-byte expression-bytes ValidExpression expression-nesting
     expression-decoded zero i = enough 1 i _ (λ w. declines 4 i (omega arith))
-    expression-decoded (suc left) i =
+    expression-decoded (suc nest) i =
         let At : ExpressionByte → Type 0 =
-        λ k. Fine text (Stands expressions text (suc left) i) (expression-of text (expression text left) k i) in
-        let a = expression-decoded left in
+        λ k. Fine text (Stands expressions text (suc nest) i) (expression-of text (expression text nest) k i) in
+        let a = expression-decoded nest in
         begins i _ (λ w.
-        by-byte At i w 0x10 (λ o. one Constant o (λ p v. (refl, v, omega arith)) (number-decoded small left))
-        (by-byte At i w 0x11 (λ o. one Variable o (λ p v. (refl, omega arith, omega arith)) (operand-decoded 63 left))
+        by-byte At i w 0x10 (λ o. one Constant o (λ p v. (refl, v, omega arith)) (number-decoded small nest))
+        (by-byte At i w 0x11 (λ o. one Variable o (λ p v. (refl, omega arith, omega arith)) (operand-decoded 63 nest))
         (by-byte At i w 0x12 (λ o. two Plus o (λ p v. (refl, v, omega arith)) a a)
         (declines 2 i (omega arith)))))
 
-    pub condition-decoded : (left : ℕ) → Finds conditions text left (condition text left)
+    pub condition-decoded : (nest : ℕ) → Finds conditions text nest (condition text nest)
     unfolding condition condition-of condition-byte condition-bytes ValidCondition condition-nesting
     condition-decoded zero i = enough 1 i _ (λ w. declines 4 i (omega arith))
-    condition-decoded (suc left) i =
+    condition-decoded (suc nest) i =
         let At : ConditionByte → Type 0 =
-        λ k. Fine text (Stands conditions text (suc left) i)
-        (condition-of text (expression text left) (condition text left) k i) in
-        let a = expression-decoded left in
-        let b = condition-decoded left in
+        λ k. Fine text (Stands conditions text (suc nest) i)
+        (condition-of text (expression text nest) (condition text nest) k i) in
+        let a = expression-decoded nest in
+        let b = condition-decoded nest in
         begins i _ (λ w.
-        by-byte At i w 0x20 (λ o. one (λ v. Bc (eqb v 1)) o value-made (operand-decoded 1 left))
+        by-byte At i w 0x20 (λ o. one (λ v. Bc (eqb v 1)) o value-made (operand-decoded 1 nest))
         (by-byte At i w 0x21 (λ o. one Not o (λ p v. (refl, v, omega arith)) b)
         (by-byte At i w 0x22 (λ o. two And o (λ p v. (refl, v, omega arith)) b b)
         (by-byte At i w 0x23 (λ o. two Less o (λ p v. (refl, v, omega arith)) a a)
         (declines 2 i (omega arith))))))
 
-    pub command-decoded : (left : ℕ) → Finds commands text left (command text left)
+    pub command-decoded : (nest : ℕ) → Finds commands text nest (command text nest)
     unfolding command command-of command-byte command-bytes Valid nesting
     command-decoded zero i = enough 1 i _ (λ w. declines 4 i (omega arith))
-    command-decoded (suc left) i =
+    command-decoded (suc nest) i =
         let At : CommandByte → Type 0 =
-        λ k. Fine text (Stands commands text (suc left) i)
-        (command-of text (expression text left) (condition text left) (command text left) k i) in
-        let a = expression-decoded left in
-        let b = condition-decoded left in
-        let c = command-decoded left in
-        let variable = operand-decoded 63 left in
+        λ k. Fine text (Stands commands text (suc nest) i)
+        (command-of text (expression text nest) (condition text nest) (command text nest) k i) in
+        let a = expression-decoded nest in
+        let b = condition-decoded nest in
+        let c = command-decoded nest in
+        let variable = operand-decoded 63 nest in
         begins i _ (λ w.
         by-byte At i w 0x00 (λ o. skip o)
         (by-byte At i w 0x01 (λ o. two _:=_ o (λ p v. (refl, (omega arith, v .1), omega arith)) variable a)

@@ -99,79 +99,79 @@ module _ (text : List ℕ) where
 
   -- ---- The same for each kind, where nesting is left
 
-  expression-begins : (left : ℕ) → 1 ≤ left → {b : ℕ} {bytes : List ℕ} {a : Expression}
-      → Reads text (expression-of text (expression text (left - 1)) (expression-byte b)) (b ∷ bytes) a
-      → Reads text (expression text left) (b ∷ bytes) a
+  expression-begins : (nest : ℕ) → 1 ≤ nest → {b : ℕ} {bytes : List ℕ} {a : Expression}
+      → Reads text (expression-of text (expression text (nest - 1)) (expression-byte b)) (b ∷ bytes) a
+      → Reads text (expression text nest) (b ∷ bytes) a
   unfolding expression
   expression-begins zero n h = absurd (omega arith)
-  expression-begins (suc left) n h = begins _ (rw (sub-one (suc left)) at h)
+  expression-begins (suc nest) n h = begins _ (rw (sub-one (suc nest)) at h)
 
-  condition-begins : (left : ℕ) → 1 ≤ left → {b : ℕ} {bytes : List ℕ} {a : Condition}
-      → Reads text (condition-of text (expression text (left - 1)) (condition text (left - 1)) (condition-byte b))
+  condition-begins : (nest : ℕ) → 1 ≤ nest → {b : ℕ} {bytes : List ℕ} {a : Condition}
+      → Reads text (condition-of text (expression text (nest - 1)) (condition text (nest - 1)) (condition-byte b))
       (b ∷ bytes) a
-      → Reads text (condition text left) (b ∷ bytes) a
+      → Reads text (condition text nest) (b ∷ bytes) a
   unfolding condition
   condition-begins zero n h = absurd (omega arith)
-  condition-begins (suc left) n h = begins _ (rw (sub-one (suc left)) at h)
+  condition-begins (suc nest) n h = begins _ (rw (sub-one (suc nest)) at h)
 
-  command-begins : (left : ℕ) → 1 ≤ left → {b : ℕ} {bytes : List ℕ} {a : Command}
-      → Reads text (command-of text (expression text (left - 1)) (condition text (left - 1)) (command text (left - 1))
+  command-begins : (nest : ℕ) → 1 ≤ nest → {b : ℕ} {bytes : List ℕ} {a : Command}
+      → Reads text (command-of text (expression text (nest - 1)) (condition text (nest - 1)) (command text (nest - 1))
       (command-byte b)) (b ∷ bytes) a
-      → Reads text (command text left) (b ∷ bytes) a
+      → Reads text (command text nest) (b ∷ bytes) a
   unfolding command
   command-begins zero n h = absurd (omega arith)
-  command-begins (suc left) n h = begins _ (rw (sub-one (suc left)) at h)
+  command-begins (suc nest) n h = begins _ (rw (sub-one (suc nest)) at h)
 
   -- ---- Constructs
 
-  pub expression-encoded : (a : Expression) (left : ℕ) → ValidExpression a → expression-nesting a ≤ left
-      → Reads text (expression text left) (expression-bytes a) a
+  pub expression-encoded : (a : Expression) (nest : ℕ) → ValidExpression a → expression-nesting a ≤ nest
+      → Reads text (expression text nest) (expression-bytes a) a
   unfolding expression-bytes ValidExpression expression-nesting expression-byte expression-of
-  expression-encoded (Constant z) left v n = expression-begins left n (one Constant (number-reads z v))
-  expression-encoded (Variable w) left v n = expression-begins left n (one Variable (operand-reads 63 w (omega arith)))
-  expression-encoded (Plus a b) left v n =
-      let x = expression-encoded a (left - 1) (v .0) (omega arith) in
-      let y = expression-encoded b (left - 1) (v .1) (omega arith) in
-      expression-begins left (omega arith) (two Plus x y)
+  expression-encoded (Constant z) nest v n = expression-begins nest n (one Constant (number-reads z v))
+  expression-encoded (Variable w) nest v n = expression-begins nest n (one Variable (operand-reads 63 w (omega arith)))
+  expression-encoded (Plus a b) nest v n =
+      let x = expression-encoded a (nest - 1) (v .0) (omega arith) in
+      let y = expression-encoded b (nest - 1) (v .1) (omega arith) in
+      expression-begins nest (omega arith) (two Plus x y)
 
   -- Bc's byte is read as its value.
   value-reads : (v : Bool) → Reads text (do b ← operand text 1; give (Bc (eqb b 1))) ((if v then 1 else 0) ∷ []) (Bc v)
   value-reads true = last (λ b. Bc (eqb b 1)) (operand-reads 1 1 (omega arith))
   value-reads false = last (λ b. Bc (eqb b 1)) (operand-reads 1 0 (omega arith))
 
-  pub condition-encoded : (b : Condition) (left : ℕ) → ValidCondition b → condition-nesting b ≤ left
-      → Reads text (condition text left) (condition-bytes b) b
+  pub condition-encoded : (b : Condition) (nest : ℕ) → ValidCondition b → condition-nesting b ≤ nest
+      → Reads text (condition text nest) (condition-bytes b) b
   unfolding condition-bytes ValidCondition condition-nesting condition-byte condition-of
-  condition-encoded (Bc t) left v n = condition-begins left n (passed (value-reads t))
-  condition-encoded (Not b) left v n =
-      condition-begins left (omega arith) (one Not (condition-encoded b (left - 1) v (omega arith)))
-  condition-encoded (And b c) left v n =
-      let x = condition-encoded b (left - 1) (v .0) (omega arith) in
-      let y = condition-encoded c (left - 1) (v .1) (omega arith) in
-      condition-begins left (omega arith) (two And x y)
-  condition-encoded (Less a b) left v n =
-      let x = expression-encoded a (left - 1) (v .0) (omega arith) in
-      let y = expression-encoded b (left - 1) (v .1) (omega arith) in
-      condition-begins left (omega arith) (two Less x y)
+  condition-encoded (Bc t) nest v n = condition-begins nest n (passed (value-reads t))
+  condition-encoded (Not b) nest v n =
+      condition-begins nest (omega arith) (one Not (condition-encoded b (nest - 1) v (omega arith)))
+  condition-encoded (And b c) nest v n =
+      let x = condition-encoded b (nest - 1) (v .0) (omega arith) in
+      let y = condition-encoded c (nest - 1) (v .1) (omega arith) in
+      condition-begins nest (omega arith) (two And x y)
+  condition-encoded (Less a b) nest v n =
+      let x = expression-encoded a (nest - 1) (v .0) (omega arith) in
+      let y = expression-encoded b (nest - 1) (v .1) (omega arith) in
+      condition-begins nest (omega arith) (two Less x y)
 
-  pub command-encoded : (c : Command) (left : ℕ) → Valid c → nesting c ≤ left
-      → Reads text (command text left) (command-bytes c) c
+  pub command-encoded : (c : Command) (nest : ℕ) → Valid c → nesting c ≤ nest
+      → Reads text (command text nest) (command-bytes c) c
   unfolding command-bytes Valid nesting command-byte command-of
-  command-encoded SKIP left v n = command-begins left n (none SKIP)
-  command-encoded (w := a) left v n =
+  command-encoded SKIP nest v n = command-begins nest n (none SKIP)
+  command-encoded (w := a) nest v n =
       let x = operand-reads 63 w (omega arith) in
-      let y = expression-encoded a (left - 1) (v .1) (omega arith) in
-      command-begins left (omega arith) (two _:=_ x y)
-  command-encoded (c ⨾ d) left v n =
-      let x = command-encoded c (left - 1) (v .0) (omega arith) in
-      let y = command-encoded d (left - 1) (v .1) (omega arith) in
-      command-begins left (omega arith) (two _⨾_ x y)
-  command-encoded (IF b THEN c ELSE d) left v n =
-      let t = condition-encoded b (left - 1) (v .0) (omega arith) in
-      let x = command-encoded c (left - 1) (v .1) (omega arith) in
-      let y = command-encoded d (left - 1) (v .2) (omega arith) in
-      command-begins left (omega arith) (three IF_THEN_ELSE_ t x y)
-  command-encoded (WHILE b DO c) left v n =
-      let t = condition-encoded b (left - 1) (v .0) (omega arith) in
-      let x = command-encoded c (left - 1) (v .1) (omega arith) in
-      command-begins left (omega arith) (two WHILE_DO_ t x)
+      let y = expression-encoded a (nest - 1) (v .1) (omega arith) in
+      command-begins nest (omega arith) (two _:=_ x y)
+  command-encoded (c ⨾ d) nest v n =
+      let x = command-encoded c (nest - 1) (v .0) (omega arith) in
+      let y = command-encoded d (nest - 1) (v .1) (omega arith) in
+      command-begins nest (omega arith) (two _⨾_ x y)
+  command-encoded (IF b THEN c ELSE d) nest v n =
+      let t = condition-encoded b (nest - 1) (v .0) (omega arith) in
+      let x = command-encoded c (nest - 1) (v .1) (omega arith) in
+      let y = command-encoded d (nest - 1) (v .2) (omega arith) in
+      command-begins nest (omega arith) (three IF_THEN_ELSE_ t x y)
+  command-encoded (WHILE b DO c) nest v n =
+      let t = condition-encoded b (nest - 1) (v .0) (omega arith) in
+      let x = command-encoded c (nest - 1) (v .1) (omega arith) in
+      command-begins nest (omega arith) (two WHILE_DO_ t x)

@@ -8,7 +8,8 @@ use mathlib.Core.List.{List}
 use lib.ListN.{length, getD}
 use borrow.Author.Tests.{le-leb, lt-leb, ne-eqb}
 use Rattle.base.specs.Acts.{ended, then′, _>>_}
-use Rattle.text.specs.Reading.{refusal, Reader, decline, there, due}
+use Rattle.base.specs.Answers.{refusal}
+use Rattle.text.specs.Reading.{Reader, decline, there, due}
 use Rattle.text.specs.Reading.{constant, variable, plus, no-expression, expression-byte}
 use Rattle.text.specs.Reading.{expression-of, expression}
 use Rattle.text.specs.Reading.{truth, negation, conjunction, comparison, no-condition, condition-byte}
@@ -98,57 +99,57 @@ module _ (text : List ℕ) where
 
   -- ---- Expressions
 
-  pub expression-past : (left i : ℕ) → length text ≤ i → expression text left i ≡ ended (refusal 1 (length text))
+  pub expression-past : (nest i : ℕ) → length text ≤ i → expression text nest i ≡ ended (refusal 1 (length text))
   unfolding expression
   expression-past zero i h = past i _ h
-  expression-past (suc left) i h = past i _ h
+  expression-past (suc nest) i h = past i _ h
 
-  pub expression-deep : (left i : ℕ) → i < length text → left ≡ 0 → expression text left i ≡ ended (refusal 4 i)
+  pub expression-deep : (nest i : ℕ) → i < length text → nest ≡ 0 → expression text nest i ≡ ended (refusal 4 i)
   unfolding expression decline
   expression-deep zero i h e = inside i _ h
-  expression-deep (suc left) i h e = absurd (omega arith)
+  expression-deep (suc nest) i h e = absurd (omega arith)
 
-  pub expression-at : (left i : ℕ) → i < length text → (left ≡ 0 → ⊥)
-      → expression text left i ≡ expression-of text (expression text (left - 1)) (expression-byte (getD text i 0)) i
+  pub expression-at : (nest i : ℕ) → i < length text → (nest ≡ 0 → ⊥)
+      → expression text nest i ≡ expression-of text (expression text (nest - 1)) (expression-byte (getD text i 0)) i
   unfolding expression due then′
   expression-at zero i h n = absurd (n refl)
-  expression-at (suc left) i h n = rw (sub-one (suc left)) (inside i _ h)
+  expression-at (suc nest) i h n = rw (sub-one (suc nest)) (inside i _ h)
 
   -- ---- Conditions
 
-  pub condition-past : (left i : ℕ) → length text ≤ i → condition text left i ≡ ended (refusal 1 (length text))
+  pub condition-past : (nest i : ℕ) → length text ≤ i → condition text nest i ≡ ended (refusal 1 (length text))
   unfolding condition
   condition-past zero i h = past i _ h
-  condition-past (suc left) i h = past i _ h
+  condition-past (suc nest) i h = past i _ h
 
-  pub condition-deep : (left i : ℕ) → i < length text → left ≡ 0 → condition text left i ≡ ended (refusal 4 i)
+  pub condition-deep : (nest i : ℕ) → i < length text → nest ≡ 0 → condition text nest i ≡ ended (refusal 4 i)
   unfolding condition decline
   condition-deep zero i h e = inside i _ h
-  condition-deep (suc left) i h e = absurd (omega arith)
+  condition-deep (suc nest) i h e = absurd (omega arith)
 
-  pub condition-at : (left i : ℕ) → i < length text → (left ≡ 0 → ⊥)
-      → condition text left i
-      ≡ condition-of text (expression text (left - 1)) (condition text (left - 1)) (condition-byte (getD text i 0)) i
+  pub condition-at : (nest i : ℕ) → i < length text → (nest ≡ 0 → ⊥)
+      → condition text nest i
+      ≡ condition-of text (expression text (nest - 1)) (condition text (nest - 1)) (condition-byte (getD text i 0)) i
   unfolding condition due then′
   condition-at zero i h n = absurd (n refl)
-  condition-at (suc left) i h n = rw (sub-one (suc left)) (inside i _ h)
+  condition-at (suc nest) i h n = rw (sub-one (suc nest)) (inside i _ h)
 
   -- ---- Commands
 
-  pub command-past : (left i : ℕ) → length text ≤ i → command text left i ≡ ended (refusal 1 (length text))
+  pub command-past : (nest i : ℕ) → length text ≤ i → command text nest i ≡ ended (refusal 1 (length text))
   unfolding command
   command-past zero i h = past i _ h
-  command-past (suc left) i h = past i _ h
+  command-past (suc nest) i h = past i _ h
 
-  pub command-deep : (left i : ℕ) → i < length text → left ≡ 0 → command text left i ≡ ended (refusal 4 i)
+  pub command-deep : (nest i : ℕ) → i < length text → nest ≡ 0 → command text nest i ≡ ended (refusal 4 i)
   unfolding command decline
   command-deep zero i h e = inside i _ h
-  command-deep (suc left) i h e = absurd (omega arith)
+  command-deep (suc nest) i h e = absurd (omega arith)
 
-  pub command-at : (left i : ℕ) → i < length text → (left ≡ 0 → ⊥)
-      → command text left i
-      ≡ command-of text (expression text (left - 1)) (condition text (left - 1)) (command text (left - 1))
+  pub command-at : (nest i : ℕ) → i < length text → (nest ≡ 0 → ⊥)
+      → command text nest i
+      ≡ command-of text (expression text (nest - 1)) (condition text (nest - 1)) (command text (nest - 1))
       (command-byte (getD text i 0)) i
   unfolding command due then′
   command-at zero i h n = absurd (n refl)
-  command-at (suc left) i h n = rw (sub-one (suc left)) (inside i _ h)
+  command-at (suc nest) i h n = rw (sub-one (suc nest)) (inside i _ h)

@@ -1,5 +1,5 @@
 pub mod Cases
-pub mod Sizes
+pub mod Limits
 pub mod Standing
 pub mod Encoded
 pub mod Decoded

@@ -2,7 +2,7 @@
 -- is left for it; by that byte it has operands, whose bytes are there, or parts, each read where the one before it
 -- ends. The idea: an act and then more gave a value only if the act did (`after`).
 use mathlib.Core.Path.{_≡_, refl, sym, ap, _∙_}
-use Prim.Native.Nat.{ℕ, _+_, _-_, _≤_, _<_}
+use Prim.Native.Nat.{ℕ, _+_, _-_, _*_, _≤_, _<_}
 use native.Mathlib.Omega.{arith}
 use mathlib.Core.Bool.{Bool, true, false}
 use mathlib.Core.List.{List}
@@ -14,11 +14,13 @@ use Rattle.base.specs.Answers.{Answer, gives, refused, unless_refuse_at_else_, 
 use Rattle.word.specs.Numbers.{number-at}
 use Rattle.text.specs.Syntax.{Expression, Constant, Variable, Plus, Condition, Bc, Not, And, Less, Command}
 use Rattle.text.specs.Syntax.{SKIP, _:=_, _⨾_, IF_THEN_ELSE_, WHILE_DO_}
-use Rattle.text.specs.Reading.{Refusal, refusal, Reader, decline, there, due, pass, operand, four, number}
+use Rattle.base.specs.Answers.{Refusal, refusal}
+use Rattle.text.specs.Reading.{Reader, decline, there, due, pass, operand, four, number}
 use Rattle.text.specs.Reading.{ExpressionByte, expression-byte, expression-of, expression}
 use Rattle.text.specs.Reading.{ConditionByte, condition-byte, condition-of, condition}
-use Rattle.text.specs.Reading.{CommandByte, command-byte, command-of, command, whole, read-text}
-use Rattle.text.specs.Sizes.{Sizes, sizes}
+use Rattle.text.specs.Reading.{CommandByte, command-byte, command-of, command, all-read, read-text}
+use Rattle.text.specs.Sizes.{sizes}
+use Rattle.text.specs.declared.Sizes.{Sizes}
 use Rattle.text.specs.Calls.{read-call}
 use Rattle.text.proofs.Heads.{is-constant, is-variable, is-plus, is-no-expression, is-truth, is-negation}
 use Rattle.text.proofs.Heads.{is-conjunction, is-comparison, is-no-condition, is-skip, is-assignment}
@@ -97,6 +99,17 @@ three x y z h e =
     let a = after x _ e in
     record { one = a .part; end = a .end; first = a .first; others = two (y (a .end)) z (h (a .part)) (a .rest) }
 
+-- A part with no parts: at i it is x, of so many bytes; it was read as a, up to n
+pub record Leaf {A : Type 0} (text : List ℕ) (o : Reading A) (bytes i : ℕ) (x a : A) (n : ℕ) : Type 0 where
+  pub inside : i + bytes ≤ length text
+  pub read : o ≡ ok x (i + bytes)
+  pub is : a ≡ x
+  pub ends : i + bytes ≡ n
+
+leaf : {A : Type 0} {text : List ℕ} {o : Reading A} {bytes i : ℕ} {x a : A} {n : ℕ} → o ≡ ok a n → a ≡ x
+    → i + bytes ≡ n → i + bytes ≤ length text → Leaf text o bytes i x a n
+leaf e f g h = record { inside = h; read = cc; is = f; ends = g }
+
 -- ---- Bytes that are there
 
 module _ (text : List ℕ) where
@@ -133,68 +146,70 @@ module _ (text : List ℕ) where
 -- ---- A construct's first byte
 
 -- The first byte is there, and nesting is left
-pub record Opened (text : List ℕ) (left i : ℕ) : Type 0 where
+pub record Opened (text : List ℕ) (nest i : ℕ) : Type 0 where
   pub inside : i < length text
-  pub nested : 0 < left
+  pub nested : 0 < nest
 
-open-by : {A : Type 0} {a : A} {n : ℕ} (text : List ℕ) (left i : ℕ) (o : Reading A)
+-- so twice the nesting left for its parts, and one more, is below twice its own.
+pub down : {text : List ℕ} {nest i t : ℕ} → Opened text nest i → 2 * nest ≡ t → 2 * (nest - 1) + 1 < t
+down o e = omega (arith, o .nested)
+
+open-by : {A : Type 0} {a : A} {n : ℕ} (text : List ℕ) (nest i : ℕ) (o : Reading A)
     → (length text ≤ i → o ≡ ended (refusal 1 (length text)))
-    → (i < length text → left ≡ 0 → o ≡ ended (refusal 4 i)) → o ≡ ok a n → Opened text left i
-open-by text left i o past deep e = by (ltb i (length text)) refl (eqb left 0) refl
+    → (i < length text → nest ≡ 0 → o ≡ ended (refusal 4 i)) → o ≡ ok a n → Opened text nest i
+open-by text nest i o past deep e = by (ltb i (length text)) refl (eqb nest 0) refl
   where
-    by : (t : Bool) → ltb i (length text) ≡ t → (z : Bool) → eqb left 0 ≡ z → Opened text left i
-    by true t true z = absurd (no-end (sym (deep (ltb-true i _ t) (eqb-true left 0 z)) ∙ e))
+    by : (t : Bool) → ltb i (length text) ≡ t → (z : Bool) → eqb nest 0 ≡ z → Opened text nest i
+    by true t true z = absurd (no-end (sym (deep (ltb-true i _ t) (eqb-true nest 0 z)) ∙ e))
     by true t false z =
         let w : i < length text = ltb-true i (length text) t in
-        let k : left ≡ 0 → ⊥ = eqb-false left 0 z in
+        let k : nest ≡ 0 → ⊥ = eqb-false nest 0 z in
         record { inside = w; nested = omega arith }
     by false t z f = absurd (no-end (sym (past (ltb-false i (length text) t)) ∙ e))
 
-module _ (text : List ℕ) (left i : ℕ) where
+module _ (text : List ℕ) (nest i : ℕ) where
   -- the parts' readers
   abbrev side : Reader Expression
-  side = expression text (left - 1)
+  side = expression text (nest - 1)
 
   abbrev test : Reader Condition
-  test = condition text (left - 1)
+  test = condition text (nest - 1)
 
   abbrev body : Reader Command
-  body = command text (left - 1)
+  body = command text (nest - 1)
 
   -- ---- Expressions
-  module _ {a : Expression} {n : ℕ} (e : expression text left i ≡ ok a n) where
-    pub expression-opened : Opened text left i
+  module _ {a : Expression} {n : ℕ} (e : expression text nest i ≡ ok a n) where
+    pub expression-opened : Opened text nest i
     expression-opened =
-        open-by text left i (expression text left i) (expression-past text left i) (expression-deep text left i) e
+        open-by text nest i (expression text nest i) (expression-past text nest i) (expression-deep text nest i) e
 
     as-expression : (k : ExpressionByte) → expression-byte (getD text i 0) ≡ k → expression-of text side k i ≡ ok a n
     as-expression k b =
         let o = expression-opened in
         ap (λ k. expression-of text side k i) (sym b)
-        ∙ sym (expression-at text left i (o .inside) (omega arith)) ∙ e
+        ∙ sym (expression-at text nest i (o .inside) (omega arith)) ∙ e
 
     pub constant-at : getD text i 0 ≡ 0x10
-        → (i + 5 ≤ length text) × (expression text left i ≡ ok (Constant (number-at text (i + 1))) (i + 5))
+        → Leaf text (expression text nest i) 5 i (Constant (number-at text (i + 1))) a n
     unfolding expression-of pass number four give then′
     constant-at b =
         let c = one (number text (i + 1)) Constant (as-expression _ (is-constant b)) in
         let w = enough text 4 (i + 1) _ (c .read) in
         let q = w .1 in
         let p = c .is in
-        let s : i + 1 + 4 ≡ i + 5 = omega arith in
-        (omega (arith, w .0), cc)
+        let s : i + 1 + 4 ≡ n = cc in
+        leaf e (cc) (omega arith) (omega (arith, w .0))
 
     pub variable-at : getD text i 0 ≡ 0x11
-        → (i + 1 < length text) × (getD text (i + 1) 0 ≤ 63)
-        × (expression text left i ≡ ok (Variable (getD text (i + 1) 0)) (i + 2))
+        → (getD text (i + 1) 0 ≤ 63) × Leaf text (expression text nest i) 2 i (Variable (getD text (i + 1) 0)) a n
     unfolding expression-of pass then′
     variable-at b =
         let c = one (operand text 63 (i + 1)) Variable (as-expression _ (is-variable b)) in
         let v = operand-read text 63 (i + 1) (c .read) in
         let p = c .is in
         let q = v .is in
-        let s : n ≡ i + 2 = omega (arith, v .end) in
-        (v .inside, v .small, cc)
+        (v .small, leaf e (cc) (omega (arith, v .end)) (omega (arith, v .inside)))
 
     pub plus-at : getD text i 0 ≡ 0x12 → Two (side (i + 1)) side Plus a n
     unfolding expression-of pass then′
@@ -209,27 +224,26 @@ module _ (text : List ℕ) (left i : ℕ) where
         by false t = absurd (no-end (as-expression _ (is-no-expression n0 n1 (eqb-false _ 0x12 t))))
 
   -- ---- Conditions
-  module _ {a : Condition} {n : ℕ} (e : condition text left i ≡ ok a n) where
-    pub condition-opened : Opened text left i
+  module _ {a : Condition} {n : ℕ} (e : condition text nest i ≡ ok a n) where
+    pub condition-opened : Opened text nest i
     condition-opened =
-        open-by text left i (condition text left i) (condition-past text left i) (condition-deep text left i) e
+        open-by text nest i (condition text nest i) (condition-past text nest i) (condition-deep text nest i) e
 
     as-condition : (k : ConditionByte) → condition-byte (getD text i 0) ≡ k → condition-of text side test k i ≡ ok a n
     as-condition k b =
         let o = condition-opened in
         ap (λ k. condition-of text side test k i) (sym b)
-        ∙ sym (condition-at text left i (o .inside) (omega arith)) ∙ e
+        ∙ sym (condition-at text nest i (o .inside) (omega arith)) ∙ e
 
     pub bc-at : getD text i 0 ≡ 0x20
-        → (i + 1 < length text) × (condition text left i ≡ ok (Bc (eqb (getD text (i + 1) 0) 1)) (i + 2))
+        → Leaf text (condition text nest i) 2 i (Bc (eqb (getD text (i + 1) 0) 1)) a n
     unfolding condition-of pass then′
     bc-at b =
         let c = one (operand text 1 (i + 1)) (λ v. Bc (eqb v 1)) (as-condition _ (is-truth b)) in
         let v = operand-read text 1 (i + 1) (c .read) in
         let p = c .is in
         let q = v .is in
-        let s : n ≡ i + 2 = omega (arith, v .end) in
-        (v .inside, cc)
+        leaf e (cc) (omega (arith, v .end)) (omega (arith, v .inside))
 
     pub not-at : getD text i 0 ≡ 0x21 → One (test (i + 1)) Not a n
     unfolding condition-of pass then′
@@ -253,20 +267,23 @@ module _ (text : List ℕ) (left i : ℕ) where
         by false t = absurd (no-end (as-condition _ (is-no-condition n0 n1 n2 (eqb-false _ 0x23 t))))
 
   -- ---- Commands
-  module _ {a : Command} {n : ℕ} (e : command text left i ≡ ok a n) where
-    pub command-opened : Opened text left i
+  module _ {a : Command} {n : ℕ} (e : command text nest i ≡ ok a n) where
+    pub command-opened : Opened text nest i
     command-opened =
-        open-by text left i (command text left i) (command-past text left i) (command-deep text left i) e
+        open-by text nest i (command text nest i) (command-past text nest i) (command-deep text nest i) e
 
     as-command : (k : CommandByte) → command-byte (getD text i 0) ≡ k → command-of text side test body k i ≡ ok a n
     as-command k b =
         let o = command-opened in
         ap (λ k. command-of text side test body k i) (sym b)
-        ∙ sym (command-at text left i (o .inside) (omega arith)) ∙ e
+        ∙ sym (command-at text nest i (o .inside) (omega arith)) ∙ e
 
-    pub skip-at : getD text i 0 ≡ 0x00 → command text left i ≡ ok SKIP (i + 1)
+    pub skip-at : getD text i 0 ≡ 0x00 → Leaf text (command text nest i) 1 i SKIP a n
     unfolding command-of pass give then′
-    skip-at b = e ∙ sym (as-command _ (is-skip b))
+    skip-at b =
+        let d = as-command _ (is-skip b) in
+        let w = command-opened .inside in
+        leaf e (cc) (cc) (omega arith)
 
     pub assignment-at : getD text i 0 ≡ 0x01
         → (i + 1 < length text) × (getD text (i + 1) 0 ≤ 63)
@@ -314,7 +331,7 @@ no-refusal : {A : Type 0} {a : A} {k p : ℕ} → _≡_ {A = Answer A} (refused 
 no-refusal e = let no : _≡_ {A = ℕ} 0 1 = cc in omega arith
 
 pub taken : (text : List ℕ) {c : Command} → read-text text ≡ gives c → Taken text c
-unfolding read-text whole
+unfolding read-text all-read
 taken text {c} e = by (leb (length text) 4096) refl (command text 64 0) refl e
   where
     ends : (t : Bool) (d : Command) (i : ℕ) → (unless t refuse 5 at i else gives d) ≡ gives c → d ≡ c
@@ -322,7 +339,7 @@ taken text {c} e = by (leb (length text) 4096) refl (command text 64 0) refl e
     ends false d i e = absurd (no-refusal e)
 
     by : (t : Bool) → leb (length text) 4096 ≡ t → (o : Reading Command) → command text 64 0 ≡ o
-        → (unless t refuse 6 at 0 else whole text o) ≡ gives c → Taken text c
+        → (unless t refuse 6 at 0 else all-read text o) ≡ gives c → Taken text c
     by true t (ok d i) o e = record {
       end = i;
       short = leb-true (length text) 4096 t;

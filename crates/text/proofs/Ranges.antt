@@ -13,11 +13,11 @@ use Rattle.base.specs.Answers.{Answer, gives, refused, and-then}
 use Rattle.text.specs.Syntax.{Command}
 use Rattle.text.specs.Reading.{read-text}
 use Rattle.text.specs.Encoding.{Bytes, command-bytes, Within}
-use Rattle.text.specs.Sizes.{Sizes}
+use Rattle.text.specs.declared.Sizes.{Sizes}
 use Rattle.text.specs.Calls.{read-call}
 use Rattle.text.specs.Claims.{Declined}
 use Rattle.text.proofs.Accepted.{one-answer}
-use Rattle.text.proofs.Sizes.{shallow, short, few}
+use Rattle.text.proofs.Limits.{shallow, short, few}
 
 -- A text that is too long is refused 6.
 pub too-long : (text : List ℕ) → 4096 < length text → refused 6 0 ≡ read-call text

@@ -96,14 +96,14 @@ pairs K L = record {
 }
 
 -- A construct within the limits stands in the text from i up to j, with this nesting left for it
-pub record Stands {A : Type 0} (K : Kind A) (text : List ℕ) (left i : ℕ) (a : A) (j : ℕ) : Type 0 where
+pub record Stands {A : Type 0} (K : Kind A) (text : List ℕ) (nest i : ℕ) (a : A) (j : ℕ) : Type 0 where
   pub holds : Holds text i (K .bytes a) j
   pub valid : K .Valid a
-  pub nested : K .nesting a ≤ left
+  pub nested : K .nesting a ≤ nest
 
 -- Two parts stand in a row where the second stands from the end of the first.
-pub both : {A B : Type 0} {K : Kind A} {L : Kind B} {text : List ℕ} {left i j k : ℕ} {x : A} {y : B}
-    → Stands K text left i x j → Stands L text left j y k → Stands (pairs K L) text left i (x, y) k
+pub both : {A B : Type 0} {K : Kind A} {L : Kind B} {text : List ℕ} {nest i j k : ℕ} {x : A} {y : B}
+    → Stands K text nest i x j → Stands L text nest j y k → Stands (pairs K L) text nest i (x, y) k
 both {text = text} h g = record {
   holds = joined text _ _ _ _ _ (h .holds) (g .holds);
   valid = (h .valid, g .valid);

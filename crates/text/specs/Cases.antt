@@ -3,7 +3,8 @@ use mathlib.Core.Path.{_≡_}
 use Prim.Native.Nat.{ℕ}
 use mathlib.Core.List.{List, [], _∷_, _++_, map}
 use Rattle.base.specs.Answers.{Answer, gives, refused}
-use Rattle.text.specs.Sizes.{Sizes, sized}
+use Rattle.text.specs.Sizes.{sized}
+use Rattle.text.specs.declared.Sizes.{Sizes}
 use Rattle.text.specs.Calls.{read-call}
 use lib.ListN.{replicate}
 
@@ -70,9 +71,58 @@ Readings = map read-call texts ≡
     read 0 0 0 ∷ read 4 2 2 ∷ read 8 2 1 ∷ read 3 1 1 ∷ read 4 1 1 ∷ read 7 2 0 ∷ read 7 2 0 ∷ read 4 2 1
     ∷ read 4 1 3 ∷ read 1 0 0 ∷ read 6 2 1 ∷ []
 
+-- The example of refusal 3: x64 := x0
+abbrev pub x64·text : List ℕ
+x64·text = 0x01 ∷ 0x40 ∷ 0x11 ∷ 0x00 ∷ []
+
 -- The examples of refusals 1 to 6.
 abbrev pub Refusals : Type 0
 Refusals = map read-call (
-    (0x01 ∷ 0x00 ∷ []) ∷ (0x7f ∷ []) ∷ (0x01 ∷ 0x40 ∷ 0x11 ∷ 0x00 ∷ []) ∷ replicate 65 0x02 ∷ (0x00 ∷ 0x00 ∷ [])
-    ∷ replicate 4097 0x00 ∷ [])
+    (0x01 ∷ 0x00 ∷ []) ∷ (0x7f ∷ []) ∷ x64·text ∷ replicate 65 0x02 ∷ (0x00 ∷ 0x00 ∷ []) ∷ replicate 4097 0x00 ∷ [])
     ≡ refused 1 2 ∷ refused 2 0 ∷ refused 3 1 ∷ refused 4 64 ∷ refused 5 1 ∷ refused 6 0 ∷ []
+
+-- The place: "a byte offset for 1 to 5 (for 1 the text's length, for 3 the operand)", and 0 for 6.
+pub record Places : Type 0 where
+  -- 1: no text at all; an operand is missing; a constant's four bytes are cut in the middle
+  pub empty : read-call [] ≡ refused 1 0
+  pub no-operand : read-call (0x01 ∷ []) ≡ refused 1 1
+  pub constant-cut : read-call (0x01 ∷ 0 ∷ 0x10 ∷ 5 ∷ 0 ∷ []) ≡ refused 1 5
+  -- 2: where an expression is due, a condition stands; where a condition is due, an expression; where a command is
+  -- due, an expression
+  pub no-expression : read-call (0x01 ∷ 0 ∷ 0x20 ∷ 1 ∷ []) ≡ refused 2 2
+  pub no-condition : read-call (0x04 ∷ 0x11 ∷ 0 ∷ 0x00 ∷ []) ≡ refused 2 1
+  pub no-command : read-call (0x02 ∷ 0x00 ∷ 0x11 ∷ 0 ∷ []) ≡ refused 2 2
+  -- 3: the variable 64 in an expression; Bc's byte 2
+  pub variable-64 : read-call (0x01 ∷ 0 ∷ 0x11 ∷ 64 ∷ []) ≡ refused 3 3
+  pub truth-2 : read-call (0x04 ∷ 0x20 ∷ 2 ∷ 0x00 ∷ []) ≡ refused 3 2
+  -- 4: WHILE, 63 times Not and Bc, which is at nesting 65; an assignment, 63 times Plus, and a variable at nesting 65
+  pub deep-condition : read-call (0x04 ∷ (replicate 63 0x21 ++ (0x20 ∷ 1 ∷ 0x00 ∷ []))) ≡ refused 4 64
+  pub deep-expression : read-call (0x01 ∷ 0 ∷ (replicate 63 0x12 ++ (0x11 ∷ 0 ∷ []))) ≡ refused 4 65
+  -- "64 is the most": WHILE, 62 times Not and Bc is read, with J's record count, D and n
+  pub deepest : read-call (0x04 ∷ (replicate 62 0x21 ++ (0x20 ∷ 1 ∷ 0x00 ∷ []))) ≡ read 1 0 0
+  -- 5: the first byte left over
+  pub left-over : read-call (0x00 ∷ 0x00 ∷ 0x00 ∷ []) ≡ refused 5 1
+  -- 6: 4,096 bytes are not too many
+  pub longest : read-call (replicate 4096 0x00) ≡ refused 5 1
+
+-- Two faults at once, of which the first in order is given: 6, then reading, which "goes left to right; at a construct
+-- 1, 4, 2, then its operand 1, 3; at the end 5".
+pub record FirstFault : Type 0 where
+  -- 6, and 2 at 0: 4,097 bytes `7F`
+  pub six-reading : read-call (replicate 4097 0x7f) ≡ refused 6 0
+  -- 1, and 4: 64 bytes `02`; the text ends, and the command due is at nesting 65. The same of a condition and an
+  -- expression
+  pub one-four : read-call (replicate 64 0x02) ≡ refused 1 64
+  pub one-four-condition : read-call (0x04 ∷ replicate 63 0x21) ≡ refused 1 64
+  pub one-four-expression : read-call (0x01 ∷ 0 ∷ replicate 63 0x12) ≡ refused 1 65
+  -- 4, and 2: 64 bytes `02` and `7F`
+  pub four-two : read-call (replicate 64 0x02 ++ (0x7f ∷ [])) ≡ refused 4 64
+  -- 2, and 1 for an operand: where a command is due, `11` begins none, and its operand is missing
+  pub two-one : read-call (0x11 ∷ []) ≡ refused 2 0
+  -- 3, and 1 for what comes after the operand: `01 40`
+  pub three-one : read-call (0x01 ∷ 0x40 ∷ []) ≡ refused 3 1
+  -- 3, and 2 further right; 2, and 3 further right
+  pub three-two : read-call (0x02 ∷ 0x01 ∷ 0x40 ∷ 0x11 ∷ 0 ∷ 0x7f ∷ []) ≡ refused 3 2
+  pub two-three : read-call (0x02 ∷ 0x7f ∷ 0x01 ∷ 0x40 ∷ 0x11 ∷ 0 ∷ []) ≡ refused 2 1
+  -- 3, and 5: `01 40 11 00` and a byte left over
+  pub three-five : read-call (x64·text ++ (0x00 ∷ [])) ≡ refused 3 1

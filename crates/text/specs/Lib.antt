@@ -5,4 +5,4 @@ pub mod Sizes
 pub mod Calls
 pub mod Claims
 pub mod Cases
-pub mod Answers
+pub mod Code

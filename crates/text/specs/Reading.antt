@@ -6,14 +6,10 @@ use lib.Dec.{ltb, leb, eqb}
 use lib.IntN.{ℤ}
 use lib.ListN.{length, getD}
 use Rattle.base.specs.Acts.{Outcome, ok, ended, Act, _>>=_, _>>_, give, if_then_else_}
-use Rattle.base.specs.Answers.{Answer, gives, refused, unless_refuse_at_else_}
+use Rattle.base.specs.Answers.{Answer, gives, refused, Refusal, refusal, unless_refuse_at_else_}
 use Rattle.word.specs.Numbers.{number-at}
 use Rattle.text.specs.Syntax.{Expression, Constant, Variable, Plus, Condition, Bc, Not, And, Less, Command}
 use Rattle.text.specs.Syntax.{SKIP, _:=_, _⨾_, IF_THEN_ELSE_, WHILE_DO_}
-
--- A refusal's number and place
-pub data Refusal : Type 0 where
-  refusal : ℕ → ℕ → Refusal
 
 -- A reader goes on from a position of the text, or ends with a refusal
 abbrev pub Reader : Type 0 → Type 0
@@ -91,7 +87,7 @@ module _ (text : List ℕ) where
   -- with the nesting left: where none is left, the construct is at nesting 65
   unfoldable pub expression : ℕ → Reader Expression
   expression zero = do there 1; decline 4
-  expression (suc left) = do there 1; b ← due; expression-of (expression left) (expression-byte b)
+  expression (suc nest) = do there 1; b ← due; expression-of (expression nest) (expression-byte b)
 
   -- "20 and a byte 0 or 1, Bc (false, true); 21 b, Not; 22 b b, And; 23 a a, Less"
   unfoldable pub condition-of : Reader Expression → Reader Condition → ConditionByte → Reader Condition
@@ -103,7 +99,7 @@ module _ (text : List ℕ) where
 
   unfoldable pub condition : ℕ → Reader Condition
   condition zero = do there 1; decline 4
-  condition (suc left) = do there 1; b ← due; condition-of (expression left) (condition left) (condition-byte b)
+  condition (suc nest) = do there 1; b ← due; condition-of (expression nest) (condition nest) (condition-byte b)
 
   -- "00 SKIP; 01 v, expression: assign; 02 c c: sequence; 03 b c c: IF, then, else; 04 b c: WHILE"
   unfoldable pub command-of : Reader Expression → Reader Condition → Reader Command → CommandByte → Reader Command
@@ -116,19 +112,19 @@ module _ (text : List ℕ) where
 
   unfoldable pub command : ℕ → Reader Command
   command zero = do there 1; decline 4
-  command (suc left) = do
+  command (suc nest) = do
     there 1
     b ← due
-    command-of (expression left) (condition left) (command left) (command-byte b)
+    command-of (expression nest) (condition nest) (command nest) (command-byte b)
 
 -- ---- A whole text
 
 -- 5: "bytes left over"
-unfoldable pub whole : List ℕ → Outcome ℕ Refusal Command → Answer Command
-whole text (ok c i) = unless leb (length text) i refuse 5 at i else gives c
-whole text (ended (refusal number place)) = refused number place
+unfoldable pub all-read : List ℕ → Outcome ℕ Refusal Command → Answer Command
+all-read text (ok c i) = unless leb (length text) i refuse 5 at i else gives c
+all-read text (ended (refusal number place)) = refused number place
 
 -- "A text is one command of at most 4,096 bytes. The root has nesting 1 and each part one more than its parent;
 -- 64 is the most." Order: 6, then reading
 unfoldable pub read-text : List ℕ → Answer Command
-read-text text = unless leb (length text) 4096 refuse 6 at 0 else whole text (command text 64 0)
+read-text text = unless leb (length text) 4096 refuse 6 at 0 else all-read text (command text 64 0)

@@ -5,6 +5,7 @@ use lib.Dec.{eqb}
 use Rattle.base.specs.Acts.{if_then_else_}
 use Rattle.text.specs.Syntax.{Expression, Constant, Variable, Plus, Condition, Bc, Not, And, Less, Command}
 use Rattle.text.specs.Syntax.{SKIP, _:=_, _⨾_, IF_THEN_ELSE_, WHILE_DO_}
+use Rattle.text.specs.declared.Sizes.{Sizes}
 
 -- ---- Record count: as many records as compilation gives, worked out from the text alone
 
@@ -78,11 +79,6 @@ abbrev pub cells : Command → ℕ
 cells c = how-many (names c) 64
 
 -- ---- The three numbers that reading gives
-
-pub record Sizes : Type 0 where
-  pub records : ℕ
-  pub depth : ℕ
-  pub cells : ℕ
 
 abbrev pub sized : ℕ → ℕ → ℕ → Sizes
 sized k d n = record { records = k; depth = d; cells = n }

@@ -1,8 +1,7 @@
--- `profile_read` meets its contract: it packs what `read` answers, whose numbers are in range.
--- In the answers r is the place after the call of `read`, x where its answer was taken apart.
+-- `profile_read` meets its contract: it packs what `read` answers.
+use mathlib.Core.Path.{ap, _∙_}
 use borrow.Author.Needs.{needs}
-use Rattle.text.specs.Encoding.{Bytes}
-use Rattle.text.proofs.Ranges.{in-range}
+use Rattle.pod_packing.specs.Packing.{packed-sizes}
 use Rattle.pod.proofs.profile_read.Statement.{statement}
 use Rattle.pod.proofs.profile_read.Tie as tie
 
@@ -11,23 +10,7 @@ profile-read-spec =
     tie.close
     (tie.spec
     (λ c κs. search needs)
-    (λ c. search needs)
-    (λ c κs.
-    let x = c .before in
-    let r = x .before .before in
-    let text = r .before .before .args .text .now in
-    let bytes : Bytes text = λ i. r .before .shared-slice-known .given i .fits in
-    (rw (← r .read .ensures, x .number .given .1) at (in-range text bytes)) .1)
-    (λ c. search needs)
-    (λ c κs.
-    let x = c .before in
-    let r = x .before .before in
-    let text = r .before .before .args .text .now in
-    let bytes : Bytes text = λ i. r .before .shared-slice-known .given i .fits in
-    rw (← r .read .ensures, x .records .given .1) at (in-range text bytes))
+    (λ c κs. search needs)
     (λ c.
-    let x = c .before .before in
-    rw (← x .before .before .read .ensures, x .number .given .1) (c .pack-refusal .ensures .0))
-    (λ c.
-    let x = c .before .before in
-    rw (← x .before .before .read .ensures, x .records .given .1) (c .pack-sizes .ensures)))
+    let answered : tie.After-read = search in
+    c .pack-sizes .ensures ∙ ap packed-sizes (answered .read .ensures)))

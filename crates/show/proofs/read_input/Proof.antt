@@ -1,11 +1,10 @@
 -- Each read brings bytes within the rest of the buffer, and at least one, so the rest falls.
-use mathlib.Core.Path.{_≡_, subst}
+use mathlib.Core.Path.{_≡_}
 use Prim.Native.Nat.{_-_, _≤_}
 use native.Mathlib.Omega.{arith}
 use lib.ListN.{length}
 use borrow.Author.Needs.{needs}
-use Rattle.show.specs.declared.Input.{Input}
-use Rattle.show.specs.Input.{Within}
+use Rattle.show.proofs.Inputs.{within}
 use Rattle.show.proofs.read_input.Statement.{statement}
 use Rattle.show.proofs.read_input.Tie as tie
 
@@ -16,18 +15,11 @@ abbrev μ-loop : tie.MeasureT-loop
 μ-loop buffer₀ done₀ buffer done = length buffer - done
 
 -- What one more read brings is within the rest of the buffer.
-more-within : (c : tie.Else1 Inv-loop μ-loop)
-    → c .before .before .more .given .0 .0 ≤ length (c .before .before .before .before .before .before .read-once .last .0)
-more-within c =
-    subst
-    (λ (i : Input). Within i (length (c .before .before .before .before .before .before .read-once .last .0)))
-    (c .before .before .more .given .1)
-    (c .before .before .before .before .before .before .read-once .ensures)
-
 loop-again : tie.Need-loop-again Inv-loop μ-loop
 loop-again c =
-    let kept = c .before .before .before .before .before .buffer .given in
-    (omega (arith, more-within c, kept), omega (arith, kept))
+    let n : tie.After-more Inv-loop μ-loop = search in
+    let r : tie.After-read-once Inv-loop μ-loop = search in
+    (omega (arith, within (n .more .given .1) (r .read-once .ensures)), omega arith)
 
 pub read-input-spec : {M : Type 1} → statement M
 read-input-spec =
@@ -46,7 +38,7 @@ read-input-spec =
     (λ c. search needs)
     (λ c. search needs)
     (λ c. search needs)
-    (λ c. omega (arith, more-within c, c .before .before .before .before .before .buffer .given))
+    (λ c. omega (arith, loop-again c))
     (λ c. search needs)
     loop-again
     (λ c. search needs)

@@ -24,32 +24,27 @@ next s = toZ-pos w32 {n = s .args .position + 1} (omega arith) ∙ ap pos (add-o
 -- what is read back of the wide sum
 reached : (c : tie.After-wide-sum) → toZ w64 (ofZ w64 (c .wide-sum .result)) ≡ sum (c .before)
 reached c =
-    read-back
-    w64
-    (c .wide-sum .ok)
-    (c .wide-sum .ensures ∙ (λ i. next (c .before) i +ℤ toZ-ofZ (c .before .fits .operand) i))
+    let s : tie.Start = search in
+    read-back w64 (c .wide-sum .ok) (c .wide-sum .ensures ∙ (λ i. next s i +ℤ toZ-ofZ (s .fits .operand) i))
 
 below : tie.Need-returns
 unfolding target
-below c =
-    let s : tie.Start = c .before .before in
-    within-below (sum s) (s .args .last) (rw (reached (c .before)) at (c .if1 .taken))
+below c = let w : tie.After-wide-sum = search in within-below _ _ (rw (reached w) at (c .if1 .taken))
 
 fits : tie.Need-cast-to
-fits c = casts w64 (c .before .wide-sum .result) (c .before .wide-sum .ok) (c .if1 .left)
+fits c = let w : tie.After-wide-sum = search in casts w64 (w .wide-sum .result) (w .wide-sum .ok) (c .if1 .left)
 
 past : tie.Need-returns-2
 unfolding target
-past c =
-    let s : tie.Start = c .before .before .before in
-    within-past (sum s) (s .args .last) (rw (reached (c .before .before)) at (c .if2 .taken))
+past c = let w : tie.After-wide-sum = search in within-past _ _ (rw (reached w) at (c .if2 .taken))
 
 inside : tie.Need-returns-3
 unfolding target
 inside c =
-    let s : tie.Start = c .before .before .before in
-    let e : toZ w64 (ofZ w64 (c .before .before .wide-sum .result)) ≡ sum s = reached (c .before .before) in
-    rw e (within-inside (sum s) (s .args .last) (rw e at (c .before .if1 .left)) (rw e at (c .if2 .left)))
+    let off : tie.Else1 = search in
+    let w : tie.After-wide-sum = search in
+    let e = reached w in
+    rw e (within-inside _ _ (rw e at (off .if1 .left)) (rw e at (c .if2 .left)))
 
 pub jump-spec : {M : Type 1} → statement M
 jump-spec =

@@ -18,7 +18,8 @@ lower c = refl
 upper : tie.Need-returns-2
 unfolding number-of
 upper c =
-    let a = c .before .before .args in
+    let s : tie.Start = search in
+    let a = s .args in
     let u = joined (a .b0) (a .b1) (a .b2) (a .b3) in
     read-back
     w32

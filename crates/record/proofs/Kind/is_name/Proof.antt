@@ -8,5 +8,8 @@ is-name-spec =
     tie.close
     (tie.spec
     (λ c. simp (le-ltb _ _ (c .if1 .taken)))
-    (λ c. simp (lt-ltb _ _ (c .before .before .if1 .left), lt-leb _ _ (c .if2 .taken)))
-    (λ c. simp (lt-ltb _ _ (c .before .before .before .if1 .left), le-leb _ _ (c .before .if2 .left))))
+    (λ c. let off : tie.Else1 = search in simp (lt-ltb _ _ (off .if1 .left), lt-leb _ _ (c .if2 .taken)))
+    (λ c.
+    let off2 : tie.Else2 = search in
+    let off : tie.Else1 = search in
+    simp (lt-ltb _ _ (off .if1 .left), le-leb _ _ (off2 .if2 .left))))

@@ -1,0 +1,29 @@
+-- What the code's answers say: document 01's number and place, or what the call gives.
+use Prim.Native.Nat.{ℕ}
+use Rattle.base.specs.Answers.{Answer, gives, refused}
+use Rattle.base.specs.Ends as Ends
+use Rattle.base.specs.Ends.{Ran}
+use Rattle.base.specs.declared.End.{End}
+use Rattle.base.specs.declared.End.the-variants.{Done, Spent, OutOfRange, Short, Full, Astray}
+use Rattle.base.specs.declared.Run.{Run}
+use Rattle.base.specs.declared.Run.the-variants.{Refused as RefusedRun, Ended}
+use Rattle.base.specs.declared.Count.{Count}
+use Rattle.base.specs.declared.Count.the-variants.{Refused as RefusedCount, Gives}
+
+abbrev pub end-of : End → Ends.End
+end-of Done = Ends.done
+end-of Spent = Ends.spent
+end-of OutOfRange = Ends.fault Ends.out-of-range
+end-of Short = Ends.fault Ends.short
+end-of Full = Ends.fault Ends.full
+end-of Astray = Ends.fault Ends.astray
+
+-- A run: its end and its count
+abbrev pub run-answer : Run → Answer Ran
+run-answer (RefusedRun r) = refused (r .number) (r .place)
+run-answer (Ended e count) = gives (record { end = end-of e; count = count })
+
+-- A count
+abbrev pub count-answer : Count → Answer ℕ
+count-answer (RefusedCount r) = refused (r .number) (r .place)
+count-answer (Gives n) = gives n

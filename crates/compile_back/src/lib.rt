@@ -1,0 +1,108 @@
+// From machine records and their table back to assembly records.
+use base::Count;
+use compile::TABLE_BYTES;
+use compile_table::Named;
+use compile_translation::Direction;
+use compile_translation::rename_records;
+use record::Address;
+use record::Kind;
+use record::RECORD_BYTES;
+use record::Variable;
+ghost use mathlib.Core.Path.{_≡_};
+ghost use Prim.Native.Nat.{_<_, _≤_};
+ghost use lib.ListN.{length};
+ghost use Rattle.base.specs.Answers.{gives, and-then};
+ghost use Rattle.base.specs.Code.{count-answer};
+ghost use Rattle.record.specs.Bytes.{over};
+ghost use Rattle.compile.specs.Table as Table;
+ghost use Rattle.compile.specs.Calls as Calls;
+ghost use Rattle.compile_back.specs.Steps as Steps;
+
+// The addresses: 0, which names nothing, and one for each variable.
+const ADDRESSES: usize = base::VARIABLES + 1;
+
+// The first variable whose entry in a table is an address.
+fn find_variable(table: &[u8], address: Address) -> Variable
+    requires { ⌜ length (now table) ≤ 64 ⌝ }
+    ensures { λ r. ⌜ (r .0 ≡ Table.variable-at (now (table .entry)) 0 (address .0)) × (r .0 < 64) ⌝ }
+{
+    let mut v = 0;
+    while v < table.len() {
+        if (table[v] as usize) == address.0 {
+            return Variable(v);
+        }
+        v += 1;
+    }
+    Variable(0)
+}
+
+// A table's inverse: the variable of each address, by the address.
+fn invert(table: &[u8], names: &mut [u8])
+    requires { ⌜ length (now table) ≤ 64 ⌝ }
+    ensures { λ _. ⌜ now (names .exit) ≡ Steps.inverse (now (table .entry)) 0 (length (now (names .entry))) ⌝ }
+{
+    let mut a = 0;
+    while a < names.len() {
+        let variable = find_variable(table, Address(a));
+        names[a] = variable.0 as u8;
+        a += 1;
+    }
+}
+
+// Bytes over the start of a buffer.
+fn copy(bytes: &[u8], out: &mut [u8])
+    requires { ⌜ length (now bytes) ≤ length (now out) ⌝ }
+    ensures { λ _. ⌜ now (out .exit) ≡ over (now (bytes .entry)) (now (out .entry)) ⌝ }
+{
+    let mut i = 0;
+    while i < bytes.len() {
+        out[i] = bytes[i];
+        i += 1;
+    }
+}
+
+// The tests of going back in their order: 9, 8, 12, 10, 7. Gives n.
+pub fn test(code: &[u8], table: &[u8], out: &[u8]) -> Count
+    ensures { λ r. ⌜ count-answer r
+        ≡ and-then (Calls.go-back-tests (now (code .entry)) (now (table .entry)) (now (out .entry)))
+        (λ P. gives (Table.named-in (now (table .entry)))) ⌝ }
+{
+    if !record::is_whole(code) {
+        return Count::decline(9, 0);
+    }
+    if table.len() != TABLE_BYTES {
+        return Count::decline(8, 0);
+    }
+    match compile_table::names(table) {
+        Named::NoTable => Count::decline(12, 0),
+        Named::Cells(n) => {
+            let count = code.len() / RECORD_BYTES;
+            let place = Kind::machine(n as u64).fault(code, count);
+            if place < count {
+                return Count::decline(10, place);
+            }
+            if out.len() < RECORD_BYTES * count {
+                return Count::decline(7, 0);
+            }
+            Count::Gives(n)
+        }
+    }
+}
+
+// Turns machine records and a table into assembly records; gives the record count. Refusals 9, 8, 12, 10, 7.
+pub fn go_back(code: &[u8], table: &[u8], out: &mut [u8]) -> Count
+    ensures { λ r. ⌜ (count-answer r, now (out .exit))
+        ≡ Calls.go-back (now (code .entry)) (now (table .entry)) (now (out .entry)) ⌝ }
+{
+    match test(code, table, out) {
+        Count::Refused(refusal) => Count::Refused(refusal),
+        Count::Gives(n) => {
+            let count = code.len() / RECORD_BYTES;
+            let mut names = [0u8; ADDRESSES];
+            invert(table, &mut names);
+            copy(code, out);
+            rename_records(out, count, Direction::ToAssembly(n), &names);
+            Count::Gives(count)
+        }
+    }
+}

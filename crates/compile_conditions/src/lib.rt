@@ -1,0 +1,188 @@
+// The records of expressions and conditions, written into a lent buffer.
+// Each part's writer gets the buffer from where the part's records are to stand. And's left side jumps over the right
+// side, so the right side is written first, where it will stand.
+ghost use mathlib.Core.Path.{_≡_};
+ghost use Prim.Native.Nat.{_+_, _<_};
+ghost use lib.ListN.{getD};
+ghost use Rattle.base.specs.Acts.{if_then_else_};
+ghost use Rattle.text.specs.Reading.{expression, condition};
+ghost use Rattle.compile.specs.Compilation.{acomp};
+ghost use Rattle.compile_conditions.specs.Parts.{jumping, Writable, Writes};
+use compile_sizes::PartSize;
+use record::ADD;
+use record::JMP;
+use record::JMPGE;
+use record::JMPLESS;
+use record::LOAD;
+use record::LOADI;
+use record::RECORD_BYTES;
+use record::put_record;
+use text_shape::AND;
+use text_shape::BC;
+use text_shape::CONSTANT;
+use text_shape::NOT;
+use text_shape::PLUS;
+
+// ---- Expressions
+
+// A constant's or a variable's record. (The nesting left is for the contract alone.)
+fn write_leaf(text: &[u8], at: usize, nest: usize, out: &mut [u8]) -> PartSize
+    requires { ⌜ (getD (now text) at 0 ≡ 0x12 → ⊥) ⌝ }
+    requires { ⌜ Writable acomp 0 (expression (now text) nest at) (now out) ⌝ }
+    ensures { λ r. ⌜ Writes acomp (expression (now (text .entry)) nest at) (now (out .entry)) (now (out .exit)) r ⌝ }
+{
+    if text[at] == CONSTANT {
+        let constant = text_shape::constant_at(text, at);
+        let value = constant.value;
+        put_record(out, 0, LOADI, value);
+        return PartSize {
+            next: at + 1 + constant.width,
+            records: 1,
+        };
+    }
+    put_record(out, 0, LOAD, text[at + 1] as i32);
+    PartSize {
+        next: at + 2,
+        records: 1,
+    }
+}
+
+// An expression's records: a sum's are both sides', and ADD.
+pub fn write_expression(text: &[u8], at: usize, nest: usize, out: &mut [u8]) -> PartSize
+    requires { ⌜ Writable acomp 0 (expression (now text) nest at) (now out) ⌝ }
+    ensures { λ r. ⌜ Writes acomp (expression (now (text .entry)) nest at) (now (out .entry)) (now (out .exit)) r ⌝ }
+{
+    if text[at] != PLUS {
+        return write_leaf(text, at, nest, out);
+    }
+    let first = write_side(text, at + 1, nest - 1, out);
+    let middle = first.next;
+    let n = first.records;
+    let start = RECORD_BYTES * n;
+    let second = write_side(text, middle, nest - 1, &mut out[start..]);
+    let m = n + second.records;
+    put_record(out, m, ADD, 0);
+    PartSize {
+        next: second.next,
+        records: m + 1,
+    }
+}
+
+// The same for a side of a sum or of a comparison: a constant or a variable is written here, and only a sum is a call.
+fn write_side(text: &[u8], at: usize, nest: usize, out: &mut [u8]) -> PartSize
+    requires { ⌜ Writable acomp 0 (expression (now text) nest at) (now out) ⌝ }
+    ensures { λ r. ⌜ Writes acomp (expression (now (text .entry)) nest at) (now (out .entry)) (now (out .exit)) r ⌝ }
+{
+    if text[at] == PLUS {
+        return write_expression(text, at, nest, out);
+    }
+    write_leaf(text, at, nest, out)
+}
+
+// ---- Conditions
+
+// The comparing jump under a flag.
+fn compare(flag: bool) -> u8
+    ensures { λ r. ⌜ r ≡ (if flag then 0x45 else 0x46) ⌝ }
+{
+    if flag { JMPLESS } else { JMPGE }
+}
+
+// A comparison's records: both sides, and the jump.
+fn write_less(
+    text: &[u8],
+    at: usize,
+    nest: usize,
+    flag: bool,
+    distance: usize,
+    out: &mut [u8],
+) -> PartSize
+    requires { ⌜ getD (now text) at 0 ≡ 0x23 ⌝ }
+    requires { ⌜ Writable (jumping flag distance) distance (condition (now text) nest at) (now out) ⌝ }
+    ensures { λ r. ⌜ Writes (jumping flag distance) (condition (now (text .entry)) nest at) (now (out .entry))
+        (now (out .exit)) r ⌝ }
+{
+    let first = write_side(text, at + 1, nest - 1, out);
+    let middle = first.next;
+    let n = first.records;
+    let start = RECORD_BYTES * n;
+    let second = write_side(text, middle, nest - 1, &mut out[start..]);
+    let m = n + second.records;
+    put_record(out, m, compare(flag), distance as i32);
+    PartSize {
+        next: second.next,
+        records: m + 1,
+    }
+}
+
+// How far And's left side jumps: over the right side, and as far as And where the flag is false.
+fn reach(flag: bool, right: usize, distance: usize) -> usize
+    requires { ⌜ right + distance < 2147483648 ⌝ }
+    ensures { λ r. ⌜ r ≡ (if flag then right else right + distance) ⌝ }
+{
+    if flag { right } else { right + distance }
+}
+
+// And's records: the left side's, which jump over the right side's where the left is false, and the right side's. The
+// right side is written where it will stand, then the left side.
+fn write_and(
+    text: &[u8],
+    at: usize,
+    nest: usize,
+    flag: bool,
+    distance: usize,
+    out: &mut [u8],
+) -> PartSize
+    requires { ⌜ getD (now text) at 0 ≡ 0x22 ⌝ }
+    requires { ⌜ Writable (jumping flag distance) distance (condition (now text) nest at) (now out) ⌝ }
+    ensures { λ r. ⌜ Writes (jumping flag distance) (condition (now (text .entry)) nest at) (now (out .entry))
+        (now (out .exit)) r ⌝ }
+{
+    let first = compile_sizes::condition_size(text, at + 1, nest - 1, false);
+    let middle = first.next;
+    let n = first.records;
+    let start = RECORD_BYTES * n;
+    let second = write_condition(text, middle, nest - 1, flag, distance, &mut out[start..]);
+    let m = second.records;
+    write_condition(text, at + 1, nest - 1, false, reach(flag, m, distance), out);
+    PartSize {
+        next: second.next,
+        records: n + m,
+    }
+}
+
+// A condition's records under a flag: they jump over `distance` records where its value is the flag.
+pub fn write_condition(
+    text: &[u8],
+    at: usize,
+    nest: usize,
+    flag: bool,
+    distance: usize,
+    out: &mut [u8],
+) -> PartSize
+    requires { ⌜ Writable (jumping flag distance) distance (condition (now text) nest at) (now out) ⌝ }
+    ensures { λ r. ⌜ Writes (jumping flag distance) (condition (now (text .entry)) nest at) (now (out .entry))
+        (now (out .exit)) r ⌝ }
+{
+    let byte = text[at];
+    if byte == BC {
+        if compile_sizes::value_size(text[at + 1] == 1, flag) == 0 {
+            return PartSize {
+                next: at + 2,
+                records: 0,
+            };
+        }
+        put_record(out, 0, JMP, distance as i32);
+        return PartSize {
+            next: at + 2,
+            records: 1,
+        };
+    }
+    if byte == NOT {
+        return write_condition(text, at + 1, nest - 1, !flag, distance, out);
+    }
+    if byte == AND {
+        return write_and(text, at, nest, flag, distance, out);
+    }
+    write_less(text, at, nest, flag, distance, out)
+}

@@ -1,0 +1,149 @@
+-- A table that passes: its entries are at most n, and distinct where they are not 0. Each of 1 to n stands in it once,
+-- and with the zeros these are all its entries; an entry at two places would stand in it twice.
+use mathlib.Core.Path.{_≡_, refl, sym, ap, _∙_}
+use mathlib.Core.Bool.{Bool, true, false}
+use mathlib.Core.List.{List, [], _∷_}
+use mathlib.Core.Logic.{⊎-elim}
+use Prim.Native.Nat.{ℕ, zero, suc, _+_, _<_, _≤_}
+use native.Mathlib.Nat.{eq-or-lt-of-le}
+use native.Mathlib.Decide.{decLt}
+use native.Mathlib.Omega.{arith}
+use lib.Dec.{eqb, ltb}
+use lib.ListN.{length, getD, List·getD-eq-default}
+use borrow.Author.Tests.{eq-eqb, eqb-true, eqb-false, ltb-true, ltb-false, le-ltb}
+use Rattle.base.specs.Acts.{if_then_else_}
+use Rattle.compile.specs.Table.{times, named-in, once-each, is-table}
+use Rattle.compile.proofs.Entries.{Distinct}
+use Rattle.compile_table.proofs.Counting.{times-most}
+
+-- Each of the k numbers from a on stands in a table once, where the test says so.
+once-at : (t : List ℕ) (a k i : ℕ) → once-each t a k ≡ true → a ≤ i → i < a + k → times i t ≡ 1
+unfolding once-each
+once-at t a zero i e h l = absurd (omega arith)
+once-at t a (suc k) i e h l = by (eqb (times a t) 1) refl e (λ g m. once-at t (suc a) k i g m (omega arith))
+  where
+    by : (b : Bool) → eqb (times a t) 1 ≡ b → (if b then once-each t (suc a) k else false) ≡ true
+        → (once-each t (suc a) k ≡ true → suc a ≤ i → times i t ≡ 1) → times i t ≡ 1
+    by true f g r =
+        ⊎-elim (λ (q : a ≡ i). ap (λ j. times j t) (sym q) ∙ eqb-true (times a t) 1 f) (λ q. r g q) (eq-or-lt-of-le h)
+    by false f g r = let z : _≡_ {A = ℕ} 0 1 = cc in absurd (omega arith)
+
+-- ---- How many entries are below k
+
+unfoldable below : ℕ → List ℕ → ℕ
+below k [] = 0
+below k (x ∷ t) = if ltb x k then suc (below k t) else below k t
+
+below-zero : (t : List ℕ) → below 0 t ≡ 0
+unfolding below
+below-zero [] = refl
+below-zero (x ∷ t) = simp (le-ltb x 0 (omega arith), below-zero t)
+
+-- Below k + 1 are those below k and those that are k.
+below-suc : (k : ℕ) (t : List ℕ) → below (suc k) t ≡ below k t + times k t
+unfolding below times
+below-suc k [] = refl
+below-suc k (x ∷ t) = by (ltb x (suc k)) (ltb x k) (eqb x k) refl refl refl (below-suc k t)
+  where
+    by : (a b c : Bool) → ltb x (suc k) ≡ a → ltb x k ≡ b → eqb x k ≡ c → below (suc k) t ≡ below k t + times k t
+        → (if a then suc (below (suc k) t) else below (suc k) t)
+        ≡ (if b then suc (below k t) else below k t) + (if c then suc (times k t) else times k t)
+    by true true true p q r h = absurd (omega (arith, ltb-true x k q, eqb-true x k r))
+    by true true false p q r h = omega arith
+    by true false true p q r h = omega arith
+    by true false false p q r h = absurd (omega (arith, ltb-true x (suc k) p, ltb-false x k q, eqb-false x k r))
+    by false true c p q r h = absurd (omega (arith, ltb-false x (suc k) p, ltb-true x k q))
+    by false false true p q r h = absurd (omega (arith, ltb-false x (suc k) p, eqb-true x k r))
+    by false false false p q r h = omega arith
+
+below-most : (k : ℕ) (t : List ℕ) → below k t ≤ length t
+unfolding below
+below-most k [] = omega arith
+below-most k (x ∷ t) = by (ltb x k) (below-most k t)
+  where
+    by : (b : Bool) → below k t ≤ length t → (if b then suc (below k t) else below k t) ≤ suc (length t)
+    by true h = omega arith
+    by false h = omega arith
+
+-- Where all entries are below k, each is.
+below-all : (k : ℕ) (t : List ℕ) (v : ℕ) → below k t ≡ length t → v < length t → getD t v 0 < k
+unfolding below
+below-all k [] v e h = absurd (omega arith)
+below-all k (x ∷ t) v e h = by (ltb x k) refl e (below-all k t) v h
+  where
+    by : (b : Bool) → ltb x k ≡ b → (if b then suc (below k t) else below k t) ≡ suc (length t)
+        → ((v : ℕ) → below k t ≡ length t → v < length t → getD t v 0 < k)
+        → (v : ℕ) → v < suc (length t) → getD (x ∷ t) v 0 < k
+    by true p e r zero h = ltb-true x k p
+    by true p e r (suc v) h = r v (omega arith) (omega arith)
+    by false p e r v h = absurd (omega (arith, below-most k t))
+
+-- Where 1 to k stand in a table once each, the zeros and k more are below k + 1.
+below-once : (t : List ℕ) (k : ℕ) → ((i : ℕ) → 1 ≤ i → i ≤ k → times i t ≡ 1) → below (suc k) t ≡ times 0 t + k
+below-once t zero h = omega (arith, below-suc 0 t, below-zero t)
+below-once t (suc k) h =
+    omega (
+      arith,
+      below-suc (suc k) t,
+      below-once t k (λ i a b. h i a (omega arith)),
+      h (suc k) (omega arith) (omega arith),
+    )
+
+-- ---- Where an entry stands
+
+-- An entry at one place counts one at least,
+times-one : (a : ℕ) (t : List ℕ) (v : ℕ) → v < length t → getD t v 0 ≡ a → 1 ≤ times a t
+unfolding times
+times-one a [] v h e = absurd (omega arith)
+times-one a (x ∷ t) zero h e = simp (eq-eqb x a e) (omega arith)
+times-one a (x ∷ t) (suc v) h e = by (eqb x a) (times-one a t v (omega arith) e)
+  where
+    by : (b : Bool) → 1 ≤ times a t → 1 ≤ (if b then suc (times a t) else times a t)
+    by true h = omega arith
+    by false h = h
+
+-- and at two places two.
+times-two : (a : ℕ) (t : List ℕ) (v w : ℕ) → v < w → w < length t → getD t v 0 ≡ a → getD t w 0 ≡ a → 2 ≤ times a t
+unfolding times
+times-two a [] v w l h e f = absurd (omega arith)
+times-two a (x ∷ t) v zero l h e f = absurd (omega arith)
+times-two a (x ∷ t) zero (suc w) l h e f = simp (eq-eqb x a e) (omega (arith, times-one a t w (omega arith) f))
+times-two a (x ∷ t) (suc v) (suc w) l h e f = by (eqb x a) (times-two a t v w (omega arith) (omega arith) e f)
+  where
+    by : (b : Bool) → 2 ≤ times a t → 2 ≤ (if b then suc (times a t) else times a t)
+    by true h = omega arith
+    by false h = h
+
+-- ---- A table that passes
+
+module _ (t : List ℕ) (passes : is-table t ≡ true) where
+  once : (a : ℕ) → 1 ≤ a → a ≤ named-in t → times a t ≡ 1
+  once a low high = once-at t 1 (named-in t) a passes low (omega arith)
+
+  -- Its entries are at most n,
+  pub entries-most : (v : ℕ) → getD t v 0 ≤ named-in t
+  entries-most v =
+      elim (decLt v (length t)) [
+        | yes l ↦
+            let all : times 0 t + named-in t ≡ length t = omega (arith, times-most 0 t) in
+            omega (arith, below-all (suc (named-in t)) t v (below-once t (named-in t) once ∙ all) l)
+        | no l ↦ omega (arith, List·getD-eq-default t 0 {n = v} (omega arith))
+      ]
+
+  apart : (v w : ℕ) → v < w → 0 < getD t v 0 → getD t v 0 ≡ getD t w 0 → ⊥
+  apart v w l p e =
+      elim (decLt w (length t)) [
+        | yes h ↦
+            let a = getD t v 0 in
+            omega (arith, times-two a t v w l h refl (sym e), once a (omega arith) (entries-most v))
+        | no h ↦ omega (arith, List·getD-eq-default t 0 {n = w} (omega arith))
+      ]
+
+  -- and distinct where they are not 0.
+  pub entries-distinct : Distinct t
+  entries-distinct v w p e =
+      elim (decLt v w) [
+        | yes l ↦ absurd (apart v w l p e)
+        | no l ↦
+            elim (decLt w v) [ yes m ↦ absurd (apart w v m (omega arith) (sym e)) | no m ↦ omega arith ]
+      ]

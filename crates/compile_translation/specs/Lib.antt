@@ -1,0 +1,4 @@
+pub mod Directions
+pub mod Standing
+pub mod Steps
+pub mod Translated

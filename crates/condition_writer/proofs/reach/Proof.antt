@@ -1,7 +1,0 @@
--- By the flag: over the right side only, or as far as And.
-use borrow.Author.Needs.{needs}
-use Rattle.condition_writer.proofs.reach.Statement.{statement}
-use Rattle.condition_writer.proofs.reach.Tie as tie
-
-pub reach-spec : {M : Type 1} → statement M
-reach-spec = tie.close (tie.spec (λ c. search needs) (λ c. search needs) (λ c. rw (c .if1 .left)))

@@ -1,3 +1,0 @@
-pub mod Passing
-pub mod Steps
-pub mod Compound

@@ -1,0 +1,105 @@
+-- Calls in a row (document 01, "Executors"), with every lent buffer as it is left: demand 3's four calls, and two rows of
+-- two calls. A call that declines ends the row; what the calls before it wrote stays.
+use Prim.Native.Nat.{ℕ, _*_}
+use mathlib.Core.List.{List}
+use lib.IntN.{ℤ}
+use lib.ListN.{take}
+use Rattle.base.specs.Acts.{_>>=_, _>>_, give}
+use Rattle.base.specs.Answers.{Answer, gives, and-then}
+use Rattle.base.specs.Ends.{Ran}
+use Rattle.base.specs.Rows.{Row, call, answered}
+use Rattle.text.specs.declared.Sizes.{Sizes}
+use Rattle.source.specs.Rules.{Store}
+use Rattle.machine.specs.Memories.{Assembly}
+use Rattle.machine.specs.Calls.{run-assembly, run-machine}
+use Rattle.compile.specs.Calls.{Compiled, assemble, compile, go-back}
+use Rattle.fitting.specs.Calls.{load, read-back-call}
+
+-- ---- The four calls
+
+pub record Lent : Type 0 where
+  pub code : List ℕ
+  pub table : List ℕ
+  pub memory : List ℤ
+  pub store : Store
+
+abbrev pub buffers : List ℕ → List ℕ → List ℤ → Store → Lent
+buffers code t memory store = record { code = code; table = t; memory = memory; store = store }
+
+-- "compiling"
+abbrev pub compiling : List ℕ → Row Lent Sizes
+compiling text l =
+    let r = compile text (record { code = l .code; table = l .table }) in
+    call (r .0) (buffers (r .1 .code) (r .1 .table) (l .memory) (l .store))
+
+-- "loading, whatever the memory held"
+abbrev pub loading : Sizes → Row Lent ℕ
+loading z l =
+    let r = load (l .table) (l .store) (z .depth) (l .memory) in
+    call (r .0) (buffers (l .code) (l .table) (r .1) (l .store))
+
+-- "running, from a fresh machine, the records written"
+abbrev pub running : Sizes → ℕ → Row Lent Ran
+running z budget l =
+    let r = run-machine (take (5 * z .records) (l .code)) (l .memory) (z .depth) (z .cells) budget in
+    call (r .0) (buffers (l .code) (l .table) (r .1) (l .store))
+
+-- "reading back into the starting store"
+abbrev pub reading-back : Sizes → Row Lent ℕ
+reading-back z l =
+    let r = read-back-call (l .table) (l .memory) (z .depth) (l .store) in
+    call (r .0) (buffers (l .code) (l .table) (l .memory) (r .1))
+
+-- "Each gets what those before it returned or left, D and n from compiling among it"
+unfoldable pub fit : List ℕ → Lent → ℕ → Answer Ran × Lent
+fit text l budget =
+    answered ((do z ← compiling text; loading z; ran ← running z budget; reading-back z; give ran) l)
+
+-- What demand 3 speaks of: the run's end and count and the store read back; or the first refusal
+unfoldable pub four-calls : List ℕ → Compiled → List ℤ → Store → ℕ → Answer (Ran × Store)
+four-calls text l memory store budget =
+    let r = fit text (buffers (l .code) (l .table) memory store) budget in
+    and-then (r .0) (λ ran. gives (ran, r .1 .store))
+
+-- ---- Assembling, and running the records written
+
+pub record AssemblyLent : Type 0 where
+  pub code : List ℕ
+  pub memory : Assembly
+
+abbrev pub assembly-buffers : List ℕ → Assembly → AssemblyLent
+assembly-buffers code m = record { code = code; memory = m }
+
+abbrev pub assembling : List ℕ → Row AssemblyLent Sizes
+assembling text l = let r = assemble text (l .code) in call (r .0) (assembly-buffers (r .1) (l .memory))
+
+abbrev pub running-assembly : Sizes → ℕ → Row AssemblyLent Ran
+running-assembly z budget l =
+    let r = run-assembly (take (5 * z .records) (l .code)) (l .memory) budget in
+    call (r .0) (assembly-buffers (l .code) (r .1))
+
+unfoldable pub assemble-and-run : List ℕ → AssemblyLent → ℕ → Answer Ran × AssemblyLent
+assemble-and-run text l budget = answered ((do z ← assembling text; running-assembly z budget) l)
+
+-- ---- Compiling, and going back from the records and the table written
+
+pub record BackLent : Type 0 where
+  pub code : List ℕ
+  pub table : List ℕ
+  pub out : List ℕ
+
+abbrev pub back-buffers : List ℕ → List ℕ → List ℕ → BackLent
+back-buffers code t out = record { code = code; table = t; out = out }
+
+abbrev pub compiling-first : List ℕ → Row BackLent Sizes
+compiling-first text l =
+    let r = compile text (record { code = l .code; table = l .table }) in
+    call (r .0) (back-buffers (r .1 .code) (r .1 .table) (l .out))
+
+abbrev pub going-back : Sizes → Row BackLent ℕ
+going-back z l =
+    let r = go-back (take (5 * z .records) (l .code)) (l .table) (l .out) in
+    call (r .0) (back-buffers (l .code) (l .table) (r .1))
+
+unfoldable pub compile-and-go-back : List ℕ → BackLent → Answer ℕ × BackLent
+compile-and-go-back text l = answered ((do z ← compiling-first text; going-back z) l)

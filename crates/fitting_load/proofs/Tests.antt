@@ -1,0 +1,115 @@
+-- The tests of both calls: the answer to which each of the code's tests leads, and what holds where the answer is n.
+use mathlib.Core.Path.{_≡_, sym, _∙_, ap}
+use mathlib.Core.Bool.{true, false, _&&_}
+use mathlib.Core.List.{List}
+use Prim.Native.Nat.{ℕ, _+_, _≤_, _<_}
+use native.Mathlib.Omega.{arith}
+use lib.Dec.{eqb, leb}
+use lib.IntN.{ℤ, pos}
+use lib.ListN.{length, replicate}
+use borrow.Author.Tests.{eqb-true, leb-true, le-leb, lt-leb, eq-eqb, ne-eqb}
+use Rattle.base.specs.Answers.{Answer, gives, refused, unless_refuse_at_else_}
+use Rattle.base.specs.Code.{count-answer}
+use Rattle.base.specs.declared.Count.{Count}
+use Rattle.source.specs.Rules.{Store}
+use Rattle.machine.specs.Calls.{memory-fits}
+use Rattle.compile.specs.Table.{named-in, is-table}
+use Rattle.fitting.specs.Loading.{fill, loaded}
+use Rattle.fitting.specs.Calls.{pod-tests}
+use Rattle.compile_table.proofs.Passing.{entries-most}
+use Rattle.base.proofs.Settled.{unless-passed, both}
+use Rattle.fitting_load.specs.Fits.{Fits}
+
+-- ---- The answer of each of the code's tests
+
+-- A table of 64 bytes that passes and names n variables, and 64 cells
+pub record Tabled (t : List ℕ) (store : Store) (n : ℕ) : Type 0 where
+  pub bytes : length t ≡ 64
+  pub cells : length store ≡ 64
+  pub passes : is-table t ≡ true
+  pub count : n ≡ named-in t
+
+module _ (t : List ℕ) (store : Store) (D : ℕ) (memory : List ℤ) where
+  pub no-bytes : (length t ≡ 64 → ⊥) → refused 8 0 ≡ pod-tests t store D memory
+  unfolding pod-tests
+  no-bytes h = simp (ne-eqb (length t) 64 h)
+
+  pub no-cells : length t ≡ 64 → (length store ≡ 64 → ⊥) → refused 8 0 ≡ pod-tests t store D memory
+  unfolding pod-tests
+  no-cells e h = simp (eq-eqb (length t) 64 e, ne-eqb (length store) 64 h)
+
+  pub no-table : length t ≡ 64 → length store ≡ 64 → is-table t ≡ false → refused 12 0 ≡ pod-tests t store D memory
+  unfolding pod-tests
+  no-table e f h = simp (eq-eqb (length t) 64 e, eq-eqb (length store) 64 f, h)
+
+  module _ {n : ℕ} (x : Tabled t store n) where
+    -- With a table that passes 11 alone is left.
+    left : pod-tests t store D memory ≡ unless memory-fits D (named-in t) memory refuse 11 at 0 else gives (named-in t)
+    unfolding pod-tests
+    left = simp (eq-eqb (length t) 64 (x .bytes), eq-eqb (length store) 64 (x .cells), x .passes)
+
+    pub too-deep : 64 < D → refused 11 0 ≡ pod-tests t store D memory
+    too-deep h = sym (left ∙ simp (lt-leb D 64 h))
+
+    few : leb (named-in t) 64 ≡ true
+    few = le-leb (named-in t) 64 (omega (arith, x .bytes))
+
+    pub no-room : D ≤ 64 → (length memory ≡ D + 1 + n → ⊥) → refused 11 0 ≡ pod-tests t store D memory
+    no-room h k =
+        sym (left
+        ∙ simp (le-leb D 64 h, few, ne-eqb (length memory) (D + 1 + named-in t) (λ e. k (omega (arith, x .count)))))
+
+    pub accepts : D ≤ 64 → length memory ≡ D + 1 + n → gives n ≡ pod-tests t store D memory
+    accepts h k =
+        ap gives (x .count)
+        ∙ sym (left
+        ∙ simp (le-leb D 64 h, few, eq-eqb (length memory) (D + 1 + named-in t) (omega (arith, x .count))))
+
+-- ---- What holds where the answer is n
+
+-- What `test` answered is what the tests answer.
+pub answers : {tests : Answer ℕ} {x y : Count} → count-answer x ≡ tests → x ≡ y → tests ≡ count-answer y
+answers tested e = sym tested ∙ ap count-answer e
+
+pub record Passed (t : List ℕ) (store : Store) (D : ℕ) (memory : List ℤ) (n : ℕ) : Type 0 where
+  pub tabled : Tabled t store n
+  pub deep : D ≤ 64
+  pub room : length memory ≡ D + 1 + n
+
+pub passed : (t : List ℕ) (store : Store) (D : ℕ) (memory : List ℤ) {n : ℕ} → pod-tests t store D memory ≡ gives n
+    → Passed t store D memory n
+unfolding pod-tests
+passed t store D memory {n} e =
+    let sized = unless-passed (eqb (length t) 64 && eqb (length store) 64) 8 0 _ e in
+    let table = unless-passed (is-table t) 12 0 _ (sized .1) in
+    let fits = unless-passed (memory-fits D (named-in t) memory) 11 0 _ (table .1) in
+    let sizes = both (eqb (length t) 64) (eqb (length store) 64) (sized .0) in
+    let deep = both (leb D 64) (leb (named-in t) 64 && eqb (length memory) (D + 1 + named-in t)) (fits .0) in
+    let room = both (leb (named-in t) 64) (eqb (length memory) (D + 1 + named-in t)) (deep .1) in
+    let same : n ≡ named-in t = cc (fits .1) in
+    record {
+      tabled = record {
+        bytes = eqb-true (length t) 64 (sizes .0);
+        cells = eqb-true (length store) 64 (sizes .1);
+        passes = table .0;
+        count = same;
+      };
+      deep = leb-true D 64 (deep .0);
+      room = eqb-true (length memory) (D + 1 + named-in t) (room .1) ∙ ap (λ (k : ℕ). D + 1 + k) (sym same);
+    }
+
+module _ {t : List ℕ} {store : Store} {D : ℕ} {memory : List ℤ} {n : ℕ} (p : Passed t store D memory n) where
+  -- The loops' demands are met, by any memory of that length.
+  pub fits : {cells : List ℤ} → length cells ≡ length memory → Fits t store D cells
+  fits e =
+      record {
+        entries = p .tabled .bytes;
+        variables = p .tabled .cells;
+        deep = p .deep;
+        inside = λ v. omega (arith, p .room, p .tabled .count, entries-most t (p .tabled .passes) v);
+      }
+
+  -- Zeros, and then each named variable at its address: the memory is loaded.
+  pub loads : {zeros cells : List ℤ} → zeros ≡ replicate (length memory) (pos 0) → cells ≡ fill t D store zeros
+      → cells ≡ loaded t D n store
+  loads e f = f ∙ ap (fill t D store) (e ∙ ap (λ (k : ℕ). replicate k (pos 0)) (p .room))

@@ -1,0 +1,29 @@
+-- What a run of machine code gives, and what it needs.
+use mathlib.Core.Path.{_≡_}
+use Prim.Native.Nat.{ℕ, _+_, _-_, _≤_}
+use mathlib.Core.List.{List}
+use lib.IntN.{ℤ}
+use lib.ListN.{length}
+use Rattle.base.specs.Answers.{gives}
+use Rattle.base.specs.Ends.{Result}
+use Rattle.word.specs.Sums.{sum32}
+use Rattle.record.specs.Records.{MachineCode}
+use Rattle.record.specs.Bytes.{machine-kind, records-from}
+use Rattle.machine.specs.Machine as Rules
+use Rattle.machine.specs.Machine.{run}
+use Rattle.machine.specs.Memories.{machine-cells}
+use Rattle.machine_step.specs.Code.{machine-of}
+use Rattle.machine_step.specs.declared.Machine.{Machine}
+
+-- A run is the run of the code's records, with the ticks that the count leaves of the budget
+abbrev pub Runs : Machine → ℕ → ℕ → List ℕ → List ℤ → ℕ → Result (Rules.Machine (List ℤ)) → Type 0
+Runs s D last code m budget result = (n : ℕ) (P : MachineCode) → length m ≡ D + 1 + n
+    → records-from (machine-kind n) code 0 last ≡ gives P
+    → result ≡ run sum32 D (machine-cells D) P (budget - s .count) (machine-of s m)
+
+-- It needs a machine that may stand at its code's end, with its count within the budget
+pub record Starts (s : Machine) (D last budget : ℕ) : Type 0 where
+  pub few : last ≤ 4096
+  pub placed : s .position ≤ last
+  pub held : s .size ≤ D
+  pub used : s .count ≤ budget

@@ -1,0 +1,2 @@
+pub mod FirstBytes
+pub mod Cases

@@ -1,0 +1,1 @@
+// What the printing program prints for a text: the definitions stand in specs/.

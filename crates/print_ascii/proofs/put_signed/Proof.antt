@@ -1,0 +1,43 @@
+-- The sign and the digits: from 0 on a number's bits are put, below 0 a minus and what they leave of 4294967296 (the
+-- laws `signed-plain` and `signed-minus`).
+use mathlib.Core.Path.{refl}
+use borrow.Author.Needs.{needs}
+use mir.Facts.{toZ-ofZ}
+use Rattle.print_ascii.proofs.Puts.{puts-is, puts-both}
+use Rattle.print_ascii.proofs.Decimals.{signed-plain, signed-minus}
+use Rattle.print_ascii.proofs.put_signed.Statement.{statement}
+use Rattle.print_ascii.proofs.put_signed.Tie as tie
+
+below-zero : tie.Need-returns
+below-zero c =
+    let put : tie.After-put-decimal = search in
+    let minus : tie.After-put-byte = search in
+    let b : tie.After-bits = search in
+    let s : tie.Start = search in
+    let same = toZ-ofZ (s .fits .z) in
+    puts-is (puts-both (minus .put-byte .ensures) (put .put-decimal .ensures))
+    (rw (rw same at (b .bits .ensures)) (signed-minus (s .args .z) (s .fits .z) (cc))) refl
+
+from-zero : tie.Need-returns-2
+from-zero c =
+    let put : tie.After-put-decimal2 = search in
+    let b : tie.After-bits = search in
+    let s : tie.Start = search in
+    let same = toZ-ofZ (s .fits .z) in
+    puts-is (put .put-decimal2 .ensures) (rw (rw same at (b .bits .ensures)) (signed-plain (s .args .z) (cc))) refl
+
+pub put-signed-spec : {M : Type 1} → statement M
+put-signed-spec =
+    tie.close
+    (tie.spec
+    (λ c κs. search needs)
+    (λ c. search needs)
+    (λ c κs. search needs)
+    (λ c κs. search needs)
+    (λ c. search needs)
+    (λ c κs. search needs)
+    (λ c. search needs)
+    below-zero
+    (λ c κs. search needs)
+    (λ c. search needs)
+    from-zero)

@@ -1,3 +1,0 @@
-pub mod Printing
-pub mod Answers
-pub mod Cases

@@ -1,0 +1,99 @@
+// The shape of a text: the first byte of each construct, a constant's value and width, and where a part ends. Nothing
+// else knows how many bytes a constant has.
+ghost use mathlib.Core.Path.{_≡_};
+ghost use Prim.Native.Nat.{ℕ, _+_, _≤_};
+ghost use lib.ListN.{length, getD};
+ghost use Rattle.text_shape.specs.Shape.{constant-width, constant-at, Row};
+
+// ---- The first byte of each construct
+
+pub const SKIP: u8 = 0x00;
+
+pub const ASSIGN: u8 = 0x01;
+
+pub const SEQUENCE: u8 = 0x02;
+
+pub const IF: u8 = 0x03;
+
+pub const WHILE: u8 = 0x04;
+
+pub const CONSTANT: u8 = 0x10;
+
+pub const VARIABLE: u8 = 0x11;
+
+pub const PLUS: u8 = 0x12;
+
+pub const BC: u8 = 0x20;
+
+pub const NOT: u8 = 0x21;
+
+pub const AND: u8 = 0x22;
+
+pub const LESS: u8 = 0x23;
+
+// ---- Constants
+
+// A constant: its value, and the bytes of its operand.
+pub struct Constant {
+    pub value: i32,
+    pub width: usize,
+}
+
+// The bytes of a constant's operand, by the constant's first byte.
+pub fn constant_width(byte: u8) -> usize
+    ensures { λ r. ⌜ r ≡ constant-width byte ⌝ }
+{
+    4
+}
+
+// The constant whose first byte stands at a position.
+pub fn constant_at(text: &[u8], at: usize) -> Constant
+    requires { ⌜ at + (1 + constant-width (getD (now text) at 0)) ≤ length (now text) ⌝ }
+    ensures { λ r. ⌜ r ≡ constant-at (now (text .entry)) at ⌝ }
+{
+    Constant {
+        value: word::number_at(text, at + 1),
+        width: constant_width(text[at]),
+    }
+}
+
+// ---- Where a part ends
+
+// The position after the part at a position, of any kind. It goes construct by construct: past the bytes of each, with
+// the number of parts that are due after them.
+pub fn part_end(text: &[u8], start: usize) -> usize
+    requires { ⌜ ((end : ℕ) × Row (now text) start 1 end) ⌝ }
+    ensures { λ r. ⌜ Row (now (text .entry)) start 1 r ⌝ }
+{
+    let mut at = start;
+    let mut due: usize = 1;
+    while due != 0 {
+        let op = text[at];
+        match op {
+            SKIP => {
+                at += 1;
+                due -= 1;
+            }
+            ASSIGN => at += 2,
+            IF => {
+                at += 1;
+                due += 2;
+            }
+            CONSTANT => {
+                at += 1 + constant_width(op);
+                due -= 1;
+            }
+            VARIABLE | BC => {
+                at += 2;
+                due -= 1;
+            }
+            NOT => at += 1,
+            // those of two parts
+            _ => {
+                at += 1;
+                due += 1;
+            }
+        }
+    }
+    at
+}

@@ -1,3 +1,0 @@
-pub mod Standing
-pub mod Steps
-pub mod Translated
