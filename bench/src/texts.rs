@@ -1,5 +1,8 @@
 //! The texts that are measured.
 
+/// A text's name and its bytes.
+pub type Text = (&'static str, Vec<u8>);
+
 fn constant(z: i32) -> Vec<u8> {
     [vec![0x10], z.to_le_bytes().to_vec()].concat()
 }
@@ -10,6 +13,10 @@ fn variable(v: u8) -> Vec<u8> {
 
 fn plus(a: Vec<u8>, b: Vec<u8>) -> Vec<u8> {
     [vec![0x12], a, b].concat()
+}
+
+fn truth(value: bool) -> Vec<u8> {
+    vec![0x20, value as u8]
 }
 
 fn less(a: Vec<u8>, b: Vec<u8>) -> Vec<u8> {
@@ -24,12 +31,28 @@ fn and(b: Vec<u8>, c: Vec<u8>) -> Vec<u8> {
     [vec![0x22], b, c].concat()
 }
 
+fn skip() -> Vec<u8> {
+    vec![0x00]
+}
+
 fn assign(v: u8, a: Vec<u8>) -> Vec<u8> {
     [vec![0x01, v], a].concat()
 }
 
+fn then(c: Vec<u8>, d: Vec<u8>) -> Vec<u8> {
+    [vec![0x02], c, d].concat()
+}
+
 fn sequence(commands: Vec<Vec<u8>>) -> Vec<u8> {
-    commands.into_iter().rev().reduce(|rest, first| [vec![0x02], first, rest].concat()).unwrap()
+    commands.into_iter().rev().reduce(|rest, first| then(first, rest)).unwrap()
+}
+
+/// So many copies of a command in a balanced tree of sequences, which nests little.
+fn copies(count: usize, command: &[u8]) -> Vec<u8> {
+    if count == 1 {
+        return command.to_vec();
+    }
+    then(copies(count / 2, command), copies(count - count / 2, command))
 }
 
 fn choose(b: Vec<u8>, c: Vec<u8>, d: Vec<u8>) -> Vec<u8> {
@@ -40,13 +63,35 @@ fn repeat(b: Vec<u8>, c: Vec<u8>) -> Vec<u8> {
     [vec![0x04], b, c].concat()
 }
 
+/// What a level of a spine puts around the part inside it.
+type Around<'a> = &'a dyn Fn(usize, Vec<u8>) -> Vec<u8>;
+
+fn nested(levels: usize, innermost: Vec<u8>, around: Around) -> Vec<u8> {
+    (0..levels).fold(innermost, |inner, level| around(level, inner))
+}
+
+// ---- Loops that run until their ticks are spent
+
+pub fn loops() -> Vec<Text> {
+    vec![("counting", counting()), ("branching", branching()), ("straight", straight())]
+}
+
+pub fn skipping_loops() -> Vec<Text> {
+    vec![
+        ("1 assignment", skipping(1)),
+        ("10 assignments", skipping(10)),
+        ("100 assignments", skipping(100)),
+        ("800 assignments", skipping(800)),
+    ]
+}
+
 /// WHILE x0 < 2000000000 DO x0 := x0 + 1
-pub fn counting() -> Vec<u8> {
+fn counting() -> Vec<u8> {
     repeat(less(variable(0), constant(2_000_000_000)), assign(0, plus(variable(0), constant(1))))
 }
 
 /// A loop over four variables with nested IF, And and Not
-pub fn branching() -> Vec<u8> {
+fn branching() -> Vec<u8> {
     let step = |v: u8, z: i32| assign(v, plus(variable(v), constant(z)));
     let reset = |v: u8| assign(v, constant(0));
     let inner = choose(
@@ -63,7 +108,7 @@ pub fn branching() -> Vec<u8> {
 }
 
 /// A loop over a long straight text: sixty assignments
-pub fn straight() -> Vec<u8> {
+fn straight() -> Vec<u8> {
     let body = (0..60u8).map(|i| {
         let (v, a, b) = (i % 16 + 1, (i * 7) % 16 + 1, (i * 3) % 16 + 1);
         match i % 3 {
@@ -73,6 +118,54 @@ pub fn straight() -> Vec<u8> {
         }
     });
     repeat(less(variable(0), constant(2_000_000_000)), sequence(body.collect()))
+}
+
+/// A loop that passes over a branch of so many assignments
+fn skipping(assignments: usize) -> Vec<u8> {
+    let branch = copies(assignments, &assign(1, variable(2)));
+    repeat(truth(true), choose(truth(false), branch, skip()))
+}
+
+// ---- Drive profiles, which run for a short time
+
+pub fn profiles() -> Vec<Text> {
+    vec![
+        ("profile B, 10 bytes", profile_b()),
+        ("one axis, 61 bytes", one_axis(0, 1)),
+        ("two axes, 183 bytes", two_axes()),
+    ]
+}
+
+/// x0 := x1 + 5
+fn profile_b() -> Vec<u8> {
+    assign(0, plus(variable(1), constant(5)))
+}
+
+/// The drive of a hand's reading: none near the middle, and held between −60 and 60
+fn one_axis(hand: u8, drive: u8) -> Vec<u8> {
+    let resting = and(less(variable(hand), constant(10)), less(constant(-10), variable(hand)));
+    let set = |z: i32| assign(drive, constant(z));
+    let backward = choose(less(variable(hand), constant(-60)), set(-60), assign(drive, variable(hand)));
+    choose(resting, set(0), choose(less(constant(60), variable(hand)), set(60), backward))
+}
+
+/// Readings of speed and turn, the drive of each, and the speed reached by steps of 5 that are counted
+fn two_axes() -> Vec<u8> {
+    let step = |v: u8, z: i32| plus(variable(v), constant(z));
+    let faster = choose(less(step(4, 5), variable(2)), assign(4, step(4, 5)), assign(4, variable(2)));
+    sequence(vec![
+        assign(0, constant(85)),
+        assign(1, constant(-37)),
+        one_axis(0, 2),
+        one_axis(1, 3),
+        repeat(less(variable(4), variable(2)), then(faster, assign(5, step(5, 1)))),
+    ])
+}
+
+// ---- Long texts
+
+pub fn long() -> Vec<Text> {
+    vec![("random, 4,000 bytes", random()), ("spine of 60 IFs and WHILEs", spine())]
 }
 
 /// A small generator of numbers (xorshift).
@@ -96,7 +189,7 @@ impl Random {
 
     fn condition(&mut self, levels: u32) -> Vec<u8> {
         match self.below(if levels == 0 { 4 } else { 8 }) {
-            0 => vec![0x20, self.below(2) as u8],
+            0 => truth(self.below(2) == 1),
             1..=3 => less(self.expression(2), self.expression(2)),
             4..=5 => not(self.condition(levels - 1)),
             _ => and(self.condition(levels - 1), self.condition(levels - 1)),
@@ -111,13 +204,13 @@ impl Random {
         match self.below(10) {
             0..=1 => choose(self.condition(2), self.command(size / 2 - 10), self.command(size / 2 - 10)),
             2 => repeat(self.condition(2), self.command(size - 20)),
-            _ => [vec![0x02], self.command(size / 2), self.command(size / 2)].concat(),
+            _ => then(self.command(size / 2), self.command(size / 2)),
         }
     }
 }
 
 /// A random text of 3,900 to 4,096 bytes
-pub fn random() -> Vec<u8> {
+fn random() -> Vec<u8> {
     let mut random = Random(41);
     loop {
         let text = random.command(5000);
@@ -128,13 +221,59 @@ pub fn random() -> Vec<u8> {
 }
 
 /// A spine of 60 nested IFs and WHILEs
-pub fn spine() -> Vec<u8> {
-    (0..60).fold(assign(0, constant(1)), |inner, i| {
-        let test = less(variable(i), plus(variable(i), constant(7)));
-        if i % 2 == 0 {
-            choose(test, inner, vec![0x00])
+fn spine() -> Vec<u8> {
+    nested(60, assign(0, constant(1)), &|level, inner| {
+        let v = level as u8;
+        let test = less(variable(v), plus(variable(v), constant(7)));
+        if level % 2 == 0 {
+            choose(test, inner, skip())
         } else {
             repeat(test, inner)
         }
     })
+}
+
+// ---- Texts of about 4,000 bytes of one shape each
+
+/// The levels of a spine, which leave nesting enough for its copies
+const LEVELS: usize = 55;
+
+/// The most copies of a command that a text has room for
+fn filled(command: Vec<u8>) -> Vec<u8> {
+    copies(4097 / (command.len() + 1), &command)
+}
+
+fn leaf() -> Vec<u8> {
+    less(variable(0), variable(1))
+}
+
+fn sums(around: Around) -> Vec<u8> {
+    filled(assign(0, nested(LEVELS, variable(0), around)))
+}
+
+fn conditions(around: Around) -> Vec<u8> {
+    filled(choose(nested(LEVELS, leaf(), around), skip(), skip()))
+}
+
+fn commands(around: Around) -> Vec<u8> {
+    filled(nested(LEVELS, skip(), around))
+}
+
+pub fn shapes() -> Vec<Text> {
+    let zigzag = |level: usize, b| if level % 2 == 0 { and(b, leaf()) } else { and(leaf(), b) };
+    let mixed = |level: usize, b| if level % 2 == 0 { and(b, leaf()) } else { not(b) };
+    vec![
+        ("flat, variables", filled(assign(1, variable(2)))),
+        ("flat, constants", filled(assign(1, constant(2)))),
+        ("sums on the left", sums(&|_, a| plus(a, variable(1)))),
+        ("sums on the right", sums(&|_, a| plus(variable(1), a))),
+        ("Nots", conditions(&|_, b| not(b))),
+        ("Ands on the left", conditions(&|_, b| and(b, leaf()))),
+        ("Ands on the right", conditions(&|_, b| and(leaf(), b))),
+        ("Ands, left and right in turn", conditions(&zigzag)),
+        ("Ands and Nots in turn, on the left", conditions(&mixed)),
+        ("IFs in the first branch", commands(&|_, c| choose(leaf(), c, skip()))),
+        ("IFs in the second branch", commands(&|_, c| choose(leaf(), skip(), c))),
+        ("WHILEs", commands(&|_, c| repeat(leaf(), c))),
+    ]
 }

@@ -1,23 +1,20 @@
 //! A plain safe Rust walker over the text's bytes: the source rules as one would write them by hand.
 //! The text is one that reading accepts.
 
-#[derive(Clone, Copy, Debug, PartialEq, Eq)]
-pub enum End {
-    Done,
-    Spent,
-    OutOfRange,
-}
+use profile_tests::calls::{End, Ran};
 
 struct Walker<'a> {
     text: &'a [u8],
     store: &'a mut [i32],
     left: u32,
+    /// Where the part that starts at a position ends; 0 as long as it is not known.
+    ends: Vec<u16>,
 }
 
-pub fn run(text: &[u8], store: &mut [i32], budget: u32) -> (End, u32) {
-    let mut walker = Walker { text, store, left: budget };
+pub fn run(text: &[u8], store: &mut [i32], budget: u32) -> Ran {
+    let mut walker = Walker { text, store, left: budget, ends: vec![0; text.len()] };
     let end = walker.command(0).err().unwrap_or(End::Done);
-    (end, budget - walker.left)
+    Ran { end, count: budget - walker.left }
 }
 
 impl Walker<'_> {
@@ -65,7 +62,7 @@ impl Walker<'_> {
                 if value {
                     self.condition(middle, flag)
                 } else {
-                    Ok((false, self.condition_end(middle)))
+                    Ok((false, self.part_end(middle)))
                 }
             }
             _ => {
@@ -96,16 +93,16 @@ impl Walker<'_> {
                 if value {
                     let second = self.command(first)?;
                     self.tick()?;
-                    Ok(self.command_end(second))
+                    Ok(self.part_end(second))
                 } else {
-                    let second = self.command_end(first);
+                    let second = self.part_end(first);
                     self.command(second)
                 }
             }
             _ => loop {
                 let (value, body) = self.condition(at + 1, false)?;
                 if !value {
-                    return Ok(self.command_end(body));
+                    return Ok(self.part_end(body));
                 }
                 self.command(body)?;
                 self.tick()?;
@@ -113,30 +110,24 @@ impl Walker<'_> {
         }
     }
 
-    fn expression_end(&self, at: usize) -> usize {
-        match self.text[at] {
-            0x10 => at + 5,
-            0x11 => at + 2,
-            _ => self.expression_end(self.expression_end(at + 1)),
+    /// The position after the part, from the table; where it is not known, it is found and kept.
+    fn part_end(&mut self, at: usize) -> usize {
+        if self.ends[at] == 0 {
+            self.ends[at] = self.passed(at) as u16;
         }
+        self.ends[at] as usize
     }
 
-    fn condition_end(&self, at: usize) -> usize {
-        match self.text[at] {
-            0x20 => at + 2,
-            0x21 => self.condition_end(at + 1),
-            0x22 => self.condition_end(self.condition_end(at + 1)),
-            _ => self.expression_end(self.expression_end(at + 1)),
-        }
-    }
-
-    fn command_end(&self, at: usize) -> usize {
+    /// The position after the part, byte by byte.
+    fn passed(&self, at: usize) -> usize {
         match self.text[at] {
             0x00 => at + 1,
-            0x01 => self.expression_end(at + 2),
-            0x02 => self.command_end(self.command_end(at + 1)),
-            0x03 => self.command_end(self.command_end(self.condition_end(at + 1))),
-            _ => self.command_end(self.condition_end(at + 1)),
+            0x01 => self.passed(at + 2),
+            0x03 => self.passed(self.passed(self.passed(at + 1))),
+            0x10 => at + 5,
+            0x11 | 0x20 => at + 2,
+            0x21 => self.passed(at + 1),
+            _ => self.passed(self.passed(at + 1)),
         }
     }
 }
