@@ -7,6 +7,7 @@ ghost use lib.ListN.{length, getD};
 ghost use Rattle.base.specs.Acts.{ended, then′};
 ghost use Rattle.word.specs.Sums.{sum32};
 ghost use Rattle.text.specs.Reading.{command};
+ghost use Rattle.text_shape.specs.Caches.{PartEnds};
 ghost use Rattle.source.specs.Rules.{spent, state, tick, assign, exec};
 ghost use Rattle.source_values.specs.Placed.{Read, placed, reaching};
 ghost use Rattle.source_commands.specs.Code.{went};
@@ -14,6 +15,7 @@ use source_values::Early;
 use source_values::Truth;
 use source_values::Value;
 use source_values::evaluate;
+use source_values::guard;
 use source_values::test;
 use text_shape::ASSIGN;
 use text_shape::IF;
@@ -86,16 +88,19 @@ fn assignment(text: &[u8], at: usize, nest: usize, store: &mut [i32], left: u32)
     }
 }
 
-// The command at a position, with the nesting left for it. The second command of a sequence is taken by the loop.
+// The command at a position, with the nesting left for it. The second command of a sequence is taken by the loop. Where
+// a part ends that is not executed is looked up.
 pub fn execute(
     text: &[u8],
     start: usize,
     deepest: usize,
     store: &mut [i32],
     budget: u32,
+    ends: &[u16],
 ) -> Progress
     requires { ⌜ Read (command (now text) deepest start) ⌝ }
     requires { ⌜ length (now store) ≡ 64 ⌝ }
+    requires { ⌜ PartEnds (now text) (now ends) ⌝ }
     ensures { λ r. ⌜ went r (now (store .exit))
         ≡ placed (exec sum32) (command (now (text .entry)) deepest start) (state budget (now (store .entry))) ⌝ }
 {
@@ -107,7 +112,7 @@ pub fn execute(
         match op {
             SKIP => return Progress::On { next: at + 1, left },
             ASSIGN => return assignment(text, at, nest, store, left),
-            SEQUENCE => match execute(text, at + 1, nest - 1, store, left) {
+            SEQUENCE => match execute(text, at + 1, nest - 1, store, left, ends) {
                 Progress::Ended { end, left: rest } => return Progress::Ended { end, left: rest },
                 Progress::On { next, left: rest } => {
                     at = next;
@@ -115,21 +120,29 @@ pub fn execute(
                     left = rest;
                 }
             },
-            IF => return choice(text, at, nest, store, left),
-            _ => return repeat(text, at, nest, store, left),
+            IF => return choice(text, at, nest, store, left, ends),
+            _ => return repeat(text, at, nest, store, left, ends),
         }
     }
 }
 
 // The IF at a position: the condition, the branch, then one tick if the branch was the first.
-fn choice(text: &[u8], at: usize, nest: usize, store: &mut [i32], left: u32) -> Progress
+fn choice(
+    text: &[u8],
+    at: usize,
+    nest: usize,
+    store: &mut [i32],
+    left: u32,
+    ends: &[u16],
+) -> Progress
     requires { ⌜ getD (now text) at 0 ≡ 0x03 ⌝ }
     requires { ⌜ Read (command (now text) nest at) ⌝ }
     requires { ⌜ length (now store) ≡ 64 ⌝ }
+    requires { ⌜ PartEnds (now text) (now ends) ⌝ }
     ensures { λ r. ⌜ went r (now (store .exit))
         ≡ placed (exec sum32) (command (now (text .entry)) nest at) (state left (now (store .entry))) ⌝ }
 {
-    match test(text, at + 1, nest - 1, false, store, left) {
+    match test(text, at + 1, nest - 1, false, store, left, ends) {
         Truth::Ended { end, left: rest } => Progress::Ended { end, left: rest },
         Truth::Of {
             value,
@@ -137,31 +150,46 @@ fn choice(text: &[u8], at: usize, nest: usize, store: &mut [i32], left: u32) -> 
             left: rest,
         } => {
             if value {
-                match execute(text, first, nest - 1, store, rest) {
+                match execute(text, first, nest - 1, store, rest, ends) {
                     Progress::Ended { end, left: last } => Progress::Ended { end, left: last },
                     Progress::On {
                         next: second,
                         left: last,
-                    } => ticked(part_end(text, second), last),
+                    } => ticked(part_end(text, second, ends), last),
                 }
             } else {
-                execute(text, part_end(text, first), nest - 1, store, rest)
+                execute(
+                    text,
+                    part_end(text, first, ends),
+                    nest - 1,
+                    store,
+                    rest,
+                    ends,
+                )
             }
         }
     }
 }
 
 // The WHILE at a position: as long as the condition is true, the body and one tick.
-fn repeat(text: &[u8], at: usize, nest: usize, store: &mut [i32], budget: u32) -> Progress
+fn repeat(
+    text: &[u8],
+    at: usize,
+    nest: usize,
+    store: &mut [i32],
+    budget: u32,
+    ends: &[u16],
+) -> Progress
     requires { ⌜ getD (now text) at 0 ≡ 0x04 ⌝ }
     requires { ⌜ Read (command (now text) nest at) ⌝ }
     requires { ⌜ length (now store) ≡ 64 ⌝ }
+    requires { ⌜ PartEnds (now text) (now ends) ⌝ }
     ensures { λ r. ⌜ went r (now (store .exit))
         ≡ placed (exec sum32) (command (now (text .entry)) nest at) (state budget (now (store .entry))) ⌝ }
 {
     let mut left = budget;
     loop {
-        match test(text, at + 1, nest - 1, false, store, left) {
+        match guard(text, at + 1, nest - 1, store, left, ends) {
             Truth::Ended { end, left: rest } => return Progress::Ended { end, left: rest },
             Truth::Of {
                 value,
@@ -170,11 +198,11 @@ fn repeat(text: &[u8], at: usize, nest: usize, store: &mut [i32], budget: u32) -
             } => {
                 if !value {
                     return Progress::On {
-                        next: part_end(text, body),
+                        next: part_end(text, body, ends),
                         left: rest,
                     };
                 }
-                match execute(text, body, nest - 1, store, rest) {
+                match execute(text, body, nest - 1, store, rest, ends) {
                     Progress::Ended { end, left: last } => {
                         return Progress::Ended { end, left: last };
                     }

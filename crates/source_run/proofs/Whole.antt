@@ -62,17 +62,21 @@ module _ (text : List ℕ) (store : Store) where
           let place : p ≡ q = cc in
           rw (f, number, place)
 
-  -- or the text is accepted and the store has its cells.
+  -- or they are passed: the text is accepted and the store has its cells.
+  pub accepted : {s : Sizes} → gives s ≡ tests → (c : Command) × (source-tests text store ≡ gives c)
+  accepted e =
+      let whole = needed (source-tests text store) (λ c. gives (sizes c)) (sym e) in
+      (whole .value, whole .given)
+
   pub record Passed : Type 0 where
     pub text-command : Command
     pub is : read-text text ≡ gives text-command
     pub long : length store ≡ 64
 
-  pub passed : {s : Sizes} → gives s ≡ tests → Passed
+  pub passed : {c : Command} → source-tests text store ≡ gives c → Passed
   unfolding source-tests
   passed e =
-      let whole = needed (source-tests text store) (λ c. gives (sizes c)) (sym e) in
-      let read = needed (read-text text) _ (whole .given) in
+      let read = needed (read-text text) _ e in
       let fits = unless-passed (eqb (length store) 64) 8 0 _ (read .then-gives) in
       record { text-command = read .value; is = read .given; long = eqb-true (length store) 64 (fits .0) }
 

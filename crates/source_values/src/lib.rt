@@ -1,6 +1,6 @@
 // The executor of expressions and conditions, as they stand in a text, by the source rules.
 ghost use mathlib.Core.Path.{_≡_};
-ghost use mathlib.Core.Bool.{Bool};
+ghost use mathlib.Core.Bool.{Bool, false};
 ghost use mathlib.Core.List.{List};
 ghost use Prim.Native.Nat.{_+_, _≤_, _<_};
 ghost use lib.Dec.{eqb};
@@ -12,12 +12,14 @@ ghost use Rattle.word.specs.Sums.{sum32};
 ghost use Rattle.text.specs.Syntax.{Constant, Variable, Bc};
 ghost use Rattle.text.specs.Reading.{expression, condition};
 ghost use Rattle.text_shape.specs.Shape.{constant-width, constant-at};
+ghost use Rattle.text_shape.specs.Caches.{PartEnds};
 ghost use Rattle.source.specs.Rules.{spent, state, tick, add, value, truth};
 ghost use Rattle.source_values.specs.Placed.{Read, placed, reaching, inverse};
 ghost use Rattle.source_values.specs.Code.{valued, tested};
 use text_shape::AND;
 use text_shape::BC;
 use text_shape::CONSTANT;
+use text_shape::LESS;
 use text_shape::NOT;
 use text_shape::VARIABLE;
 use text_shape::constant_at;
@@ -247,10 +249,20 @@ fn smaller(text: &[u8], at: usize, nest: usize, store: &[i32], left: u32) -> Tru
     }
 }
 
-// The condition at a position, taken under a flag. And's right side is not looked at when the left is false.
-pub fn test(text: &[u8], at: usize, nest: usize, flag: bool, store: &[i32], left: u32) -> Truth
+// The condition at a position, taken under a flag. And's right side is not looked at when the left is false: where it
+// ends is looked up.
+pub fn test(
+    text: &[u8],
+    at: usize,
+    nest: usize,
+    flag: bool,
+    store: &[i32],
+    left: u32,
+    ends: &[u16],
+) -> Truth
     requires { ⌜ Read (condition (now text) nest at) ⌝ }
     requires { ⌜ length (now store) ≡ 64 ⌝ }
+    requires { ⌜ PartEnds (now text) (now ends) ⌝ }
     ensures { λ r. ⌜ tested r (now (store .entry))
         ≡ placed (λ b. truth sum32 b flag) (condition (now (text .entry)) nest at)
         (state left (now (store .entry))) ⌝ }
@@ -258,8 +270,8 @@ pub fn test(text: &[u8], at: usize, nest: usize, flag: bool, store: &[i32], left
     let op = text[at];
     match op {
         BC => bc(text, at, flag, left),
-        NOT => inverted(test(text, at + 1, nest - 1, !flag, store, left)),
-        AND => match test(text, at + 1, nest - 1, false, store, left) {
+        NOT => inverted(test(text, at + 1, nest - 1, !flag, store, left, ends)),
+        AND => match test(text, at + 1, nest - 1, false, store, left, ends) {
             Truth::Ended { end, left: rest } => Truth::Ended { end, left: rest },
             Truth::Of {
                 value,
@@ -267,11 +279,11 @@ pub fn test(text: &[u8], at: usize, nest: usize, flag: bool, store: &[i32], left
                 left: rest,
             } => {
                 if value {
-                    test(text, next, nest - 1, flag, store, rest)
+                    test(text, next, nest - 1, flag, store, rest, ends)
                 } else {
                     Truth::Of {
                         value: false,
-                        next: part_end(text, next),
+                        next: part_end(text, next, ends),
                         left: rest,
                     }
                 }
@@ -279,4 +291,19 @@ pub fn test(text: &[u8], at: usize, nest: usize, flag: bool, store: &[i32], left
         },
         _ => smaller(text, at, nest, store, left),
     }
+}
+
+// The condition of a WHILE, taken under false. Most are comparisons, which are taken here; only others are a call.
+pub fn guard(text: &[u8], at: usize, nest: usize, store: &[i32], left: u32, ends: &[u16]) -> Truth
+    requires { ⌜ Read (condition (now text) nest at) ⌝ }
+    requires { ⌜ length (now store) ≡ 64 ⌝ }
+    requires { ⌜ PartEnds (now text) (now ends) ⌝ }
+    ensures { λ r. ⌜ tested r (now (store .entry))
+        ≡ placed (λ b. truth sum32 b false) (condition (now (text .entry)) nest at)
+        (state left (now (store .entry))) ⌝ }
+{
+    if text[at] == LESS {
+        return smaller(text, at, nest, store, left);
+    }
+    test(text, at, nest, false, store, left, ends)
 }

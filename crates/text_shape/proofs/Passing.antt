@@ -29,7 +29,7 @@ module _ (text : List ℕ) where
   abbrev Before : {A : Type 0} → Reader A → Type 0
   Before {A} r = (i : ℕ) (a : A) (n k j : ℕ) → r i ≡ ok a n → Row text n k j → Row text i (suc k) j
 
-  opens : (b i : ℕ) {n j : ℕ} → getD text i 0 ≡ b → i + width b ≤ length text
+  pub opens : (b i : ℕ) {n j : ℕ} → getD text i 0 ≡ b → i + width b ≤ length text
       → Row text (i + width b) (due-after b n) j → Row text i (suc n) j
   opens b i {n} {j} e h r =
       more (subst (λ b. i + width b ≤ length text) (sym e) h)
@@ -137,6 +137,34 @@ module _ (text : List ℕ) where
   command-row (suc l) =
       command-first (suc l) (subst (λ (n : ℕ). Before (command text n)) (sym (sub-one (suc l))) (command-row l))
 
+  -- ---- Two rows, one after the other
+
+  due-sum : (b n m : ℕ) → due-after b n + m ≡ due-after b (n + m)
+  unfolding due-after
+  due-sum b n m =
+      by (eqb b 0x00) (eqb b 0x01) (eqb b 0x03) (eqb b 0x10) (eqb b 0x11) (eqb b 0x20) (eqb b 0x21)
+    where
+      by : (s t u v w x y : Bool)
+          → (if s then n else if t then suc n else if u then suc (suc (suc n)) else if v then n else if w then n else
+          if x then n else if y then suc n else suc (suc n)) + m
+          ≡ (if s then n + m else if t then suc (n + m) else if u then suc (suc (suc (n + m))) else if v then n + m else
+          if w then n + m else if x then n + m else if y then suc (n + m) else suc (suc (n + m)))
+      by true t u v w x y = refl
+      by false true u v w x y = omega arith
+      by false false true v w x y = omega arith
+      by false false false true w x y = refl
+      by false false false false true x y = refl
+      by false false false false false true y = refl
+      by false false false false false false true = omega arith
+      by false false false false false false false = omega arith
+
+  pub in-a-row : {i n j m k : ℕ} → Row text i n j → Row text j m k → Row text i (n + m) k
+  in-a-row {i = i} {m = m} {k = k} none s = subst (λ (d : ℕ). Row text i d k) (omega arith) s
+  in-a-row {i = i} {m = m} {k = k} (more {n = n} h r) s =
+      let b = getD text i 0 in
+      let rest = subst (λ (d : ℕ). Row text (i + width b) d k) (due-sum b n m) (in-a-row r s) in
+      subst (λ (d : ℕ). Row text i d k) (omega arith) (more {n = n + m} h rest)
+
   -- ---- A row has one end
 
   one-end : {i n j k : ℕ} → Row text i n j → Row text i n k → j ≡ k
@@ -187,6 +215,26 @@ room {text} h (more {i = i} {n = n} g r) =
     let d : n ≤ due-after (getD text i 0) n = no-fewer (getD text i 0) n in
     (omega arith, q)
 
+-- A byte that is none of the others': one byte, and two parts
+module _ (b : ℕ) (n0 : b ≡ 0x00 → ⊥) (n1 : b ≡ 0x01 → ⊥) (n2 : b ≡ 0x03 → ⊥) (n3 : b ≡ 0x10 → ⊥) (n4 : b ≡ 0x11 → ⊥)
+    (n5 : b ≡ 0x20 → ⊥) (n6 : b ≡ 0x21 → ⊥) where
+  pub pair-width : width b ≡ 1
+  unfolding width
+  pair-width = simp (ne-eqb b 0x01 n1, ne-eqb b 0x10 n3, ne-eqb b 0x11 n4, ne-eqb b 0x20 n5)
+
+  pub pair-due : (n : ℕ) → due-after b n ≡ suc (suc n)
+  unfolding due-after
+  pair-due n =
+      simp (
+        ne-eqb b 0x00 n0,
+        ne-eqb b 0x01 n1,
+        ne-eqb b 0x03 n2,
+        ne-eqb b 0x10 n3,
+        ne-eqb b 0x11 n4,
+        ne-eqb b 0x20 n5,
+        ne-eqb b 0x21 n6,
+      )
+
 -- From here the parts due reach the end that the part at the start has
 pub record Passing (text : List ℕ) (start i due : ℕ) : Type 0 where
   pub end : ℕ
@@ -198,7 +246,7 @@ pub record Turn (text : List ℕ) (start i wide due : ℕ) : Type 0 where
   pub inside : i + wide + due ≤ length text
   pub goes-on : Passing text start (i + wide) due
 
-opened : {text : List ℕ} {i n j : ℕ} → Row text i n j → (n ≡ 0 → ⊥)
+pub opened : {text : List ℕ} {i n j : ℕ} → Row text i n j → (n ≡ 0 → ⊥)
     → (i + width (getD text i 0) ≤ length text)
     × Row text (i + width (getD text i 0)) (due-after (getD text i 0) (n - 1)) j
 opened none h = absurd (h refl)
@@ -227,21 +275,10 @@ module _ {text : List ℕ} {start i n : ℕ} (p : Passing text start i n) (h : n
   pub turn-rest : (getD text i 0 ≡ 0x00 → ⊥) → (getD text i 0 ≡ 0x01 → ⊥) → (getD text i 0 ≡ 0x03 → ⊥)
       → (getD text i 0 ≡ 0x10 → ⊥) → (getD text i 0 ≡ 0x11 → ⊥) → (getD text i 0 ≡ 0x20 → ⊥)
       → (getD text i 0 ≡ 0x21 → ⊥) → (due : ℕ) → suc (suc (n - 1)) ≡ due → Turn text start i 1 due
-  unfolding width due-after
   turn-rest n0 n1 n2 n3 n4 n5 n6 due f =
-      let w : width (getD text i 0) ≡ 1 = simp (ne-eqb _ 0x01 n1, ne-eqb _ 0x10 n3, ne-eqb _ 0x11 n4, ne-eqb _ 0x20 n5)
-      in
-      let d : due-after (getD text i 0) (n - 1) ≡ suc (suc (n - 1)) =
-      simp (
-        ne-eqb _ 0x00 n0,
-        ne-eqb _ 0x01 n1,
-        ne-eqb _ 0x03 n2,
-        ne-eqb _ 0x10 n3,
-        ne-eqb _ 0x11 n4,
-        ne-eqb _ 0x20 n5,
-        ne-eqb _ 0x21 n6,
-      ) in
-      rw w at (turn (getD text i 0) refl due (d ∙ f))
+      let b = getD text i 0 in
+      rw (pair-width b n0 n1 n2 n3 n4 n5 n6)
+      at (turn b refl due (pair-due b n0 n1 n2 n3 n4 n5 n6 (n - 1) ∙ f))
 
 -- Where no part is due, this is the end of the part at the start.
 pub arrived : {text : List ℕ} {start i n : ℕ} → Passing text start i n → n ≡ 0 → Row text start 1 i

@@ -16,6 +16,7 @@ use Rattle.text_shape.proofs.part_end.Reads as part-end-reads
 use Rattle.source.specs.Rules.{Store, Outcomes, state, tick}
 use Rattle.source_values.specs.Placed.{Reached, _upto_, reaching}
 use Rattle.source_values.proofs.Steps.{truth-told, was-read}
+use Rattle.source_values.proofs.guard.Reads as guard-reads
 use Rattle.source_values.proofs.test.Reads as test-reads
 use Rattle.source_commands.specs.Code.{went}
 use Rattle.source_commands.specs.declared.Progress.{Progress}
@@ -39,27 +40,27 @@ use Rattle.source_commands.proofs.+choice+execute+repeat.{statement}
 use Rattle.source_commands.proofs.+choice+execute+repeat.Tie.{close}
 
 -- twice the nesting left, and one more for a command of any kind
-abbrev choice : Member 2 choice-kinds.ps choice-kinds.r
+abbrev choice : Member 3 choice-kinds.ps choice-kinds.r
 choice = twice choice-reads.Pre choice-reads.Post
 
-abbrev execute : Member 2 execute-kinds.ps execute-kinds.r
+abbrev execute : Member 3 execute-kinds.ps execute-kinds.r
 execute = one-more execute-reads.Pre execute-reads.Post
 
-abbrev repeat : Member 2 repeat-kinds.ps repeat-kinds.r
+abbrev repeat : Member 3 repeat-kinds.ps repeat-kinds.r
 repeat = twice repeat-reads.Pre repeat-reads.Post
 
 abbrev execute-Inv-loop : execute-lts.InvT-loop
-execute-Inv-loop text start deepest store₀ budget at₀ nest₀ left₀ store at nest left =
+execute-Inv-loop text start deepest store₀ budget ends at₀ nest₀ left₀ store at nest left =
     Going text start deepest budget store₀ at nest left store
 
 abbrev execute-μ-loop : execute-lts.MeasureT-loop
-execute-μ-loop text start deepest store₀ budget at₀ nest₀ left₀ store at nest left = nest
+execute-μ-loop text start deepest store₀ budget ends at₀ nest₀ left₀ store at nest left = nest
 
 abbrev repeat-Inv-loop : repeat-lts.InvT-loop
-repeat-Inv-loop text at nest store₀ budget left₀ store left = Turning text at nest budget store₀ left store
+repeat-Inv-loop text at nest store₀ budget ends left₀ store left = Turning text at nest budget store₀ left store
 
 abbrev repeat-μ-loop : repeat-lts.MeasureT-loop
-repeat-μ-loop text at nest store₀ budget left₀ store left = left
+repeat-μ-loop text at nest store₀ budget ends left₀ store left = left
 
 abbrev choice-claims : ℕ → choice-lts.Claims
 choice-claims t = (
@@ -94,8 +95,8 @@ In-execute t S = here execute (execute-claims t) t S execute-Inv-loop execute-μ
 
 abbrev repeat-claims : ℕ → repeat-lts.Claims
 repeat-claims t = (
-  test-reads.Asked,
-  test-reads.Learnt,
+  guard-reads.Asked,
+  guard-reads.Learnt,
   part-end-reads.Asked,
   part-end-reads.Learnt,
   below execute t,
@@ -164,7 +165,7 @@ pub +choice+execute+repeat-spec : {M : Type 1} → statement M
     let chosen = truth-told (s .args .store .now) (v .value .given .1) (e .test .ensures) in
     let m = f .execute .last .1 .1 .1 .0 in
     let first = went-told m (b .second .given .1) (f .execute .ensures) in
-    command-ends _ _ _ (other-at w (parts t s) _ chosen first))
+    (command-ends _ _ _ (other-at w (parts t s) _ chosen first), s .pre .1 .1 .1 .1))
     (λ c κs. search needs)
     -- part-end-requires-2
     (λ c κs.
@@ -173,7 +174,7 @@ pub +choice+execute+repeat-spec : {M : Type 1} → statement M
     let s : In-choice t choice-lts.Start = search in
     let w = s .pre .1 .1 .0 .is in
     let chosen = truth-told (s .args .store .now) (v .value .given .1) (e .test .ensures) in
-    command-ends _ _ _ (first-at w (parts t s) _ chosen))
+    (command-ends _ _ _ (first-at w (parts t s) _ chosen), s .pre .1 .1 .1 .1))
     -- sub-execute-2
     (λ c. let s : In-choice t choice-lts.Start = search in command-opened _ _ _ (s .pre .1 .1 .0 .is) .nested)
     -- execute-requires-2
@@ -237,7 +238,7 @@ pub +choice+execute+repeat-spec : {M : Type 1} → statement M
     c .before .execute2 .ensures ∙ sym (else-is w (parts t s) _ chosen _ middle (no .if1 .left))))
     (λ t. execute-lts.spec (execute-claims t) (at execute t) (execute .post) execute-Inv-loop execute-μ-loop
     -- loop-holds
-    (λ c. begins _ _ _ _ _ (c .before .pre .1 .0))
+    (λ c. let s : In-execute t execute-lts.Start = search in begins _ _ _ _ _ (s .pre .1 .0))
     -- shared-slice-read-op
     (λ c. command-opened _ _ _ (c .before .loop .inv .read .is) .inside)
     -- add-t16
@@ -256,7 +257,7 @@ pub +choice+execute+repeat-spec : {M : Type 1} → statement M
     (λ c κs.
     let l : In-execute t execute-lts.At-loop = search in
     let s : In-execute t execute-lts.Start = search in
-    (c .before .match .keys2, (l .loop .inv .read, l .loop .inv .long ∙ s .pre .1 .1)))
+    (c .before .match .keys2, (l .loop .inv .read, l .loop .inv .long ∙ s .pre .1 .1 .0)))
     -- same-length-2
     (λ c.
     let l : In-execute t execute-lts.At-loop = search in
@@ -279,7 +280,7 @@ pub +choice+execute+repeat-spec : {M : Type 1} → statement M
     let s : In-execute t execute-lts.Start = search in
     let m = i .nested in
     let n = command-opened _ _ _ (i .read .is) .nested in
-    (omega arith, (was-read (two .first), i .long ∙ s .pre .1 .1)))
+    (omega arith, (was-read (two .first), (i .long ∙ s .pre .1 .1 .0, s .pre .1 .1 .1))))
     (λ c. search needs)
     -- same-length-3
     (λ c.
@@ -318,7 +319,7 @@ pub +choice+execute+repeat-spec : {M : Type 1} → statement M
     let s : In-execute t execute-lts.Start = search in
     let i = l .loop .inv in
     let m = i .nested in
-    (omega arith, (c .before .match .keys4, (i .read, i .long ∙ s .pre .1 .1))))
+    (omega arith, (c .before .match .keys4, (i .read, (i .long ∙ s .pre .1 .1 .0, s .pre .1 .1 .1)))))
     -- same-length-4
     (λ c.
     let l : In-execute t execute-lts.At-loop = search in
@@ -333,7 +334,7 @@ pub +choice+execute+repeat-spec : {M : Type 1} → statement M
     let m = i .nested in
     let r = c .before .match .rest in
     let b = last-command _ _ _ (i .read .is) (r .0 .0 .0 .1) (r .0 .0 .1) (r .0 .1) (r .1) in
-    (omega arith, (b, (i .read, i .long ∙ s .pre .1 .1))))
+    (omega arith, (b, (i .read, (i .long ∙ s .pre .1 .1 .0, s .pre .1 .1 .1)))))
     -- same-length-5
     (λ c.
     let l : In-execute t execute-lts.At-loop = search in
@@ -343,47 +344,48 @@ pub +choice+execute+repeat-spec : {M : Type 1} → statement M
     (λ t. repeat-lts.spec (repeat-claims t) (at repeat t) (repeat .post) repeat-Inv-loop repeat-μ-loop
     -- loop-holds
     (λ c. record { long = refl; same = refl })
-    -- add-test
+    -- add-guard
     (λ c.
     let s : In-repeat t repeat-lts.Start = search in
     let w = command-opened _ _ _ (s .pre .1 .1 .0 .is) .inside in
     omega arith)
-    -- sub-test
+    -- sub-guard
     (λ c. let s : In-repeat t repeat-lts.Start = search in command-opened _ _ _ (s .pre .1 .1 .0 .is) .nested)
-    -- test-requires
+    -- guard-requires
     (λ c κs.
+    let l : In-repeat t repeat-lts.At-loop = search in
     let s : In-repeat t repeat-lts.Start = search in
-    (was-read (looped t s .first), c .before .loop .inv .long ∙ s .pre .1 .1 .1))
+    (was-read (looped t s .first), (l .loop .inv .long ∙ s .pre .1 .1 .1 .0, s .pre .1 .1 .1 .1)))
     (λ c. search needs)
     -- same-length
     (λ c. let l : In-repeat t repeat-lts.At-loop = search in l .loop .inv .long)
     -- returns
     (λ c.
-    let e : In-repeat t repeat-lts.After-test = search in
+    let e : In-repeat t repeat-lts.After-guard = search in
     let l : In-repeat t repeat-lts.At-loop = search in
     let s : In-repeat t repeat-lts.Start = search in
-    let stops = truth-told (l .loop .store) (c .before .end .given .1) (e .test .ensures) in
+    let stops = truth-told (l .loop .store) (c .before .end .given .1) (e .guard .ensures) in
     sym (while-ended (s .pre .1 .1 .0 .is) (looped t s) _ stops) ∙ l .loop .inv .same)
     (λ c. search needs)
     -- part-end-requires
     (λ c κs.
     let v : In-repeat t repeat-lts.After-value = search in
-    let e : In-repeat t repeat-lts.After-test = search in
+    let e : In-repeat t repeat-lts.After-guard = search in
     let l : In-repeat t repeat-lts.At-loop = search in
     let s : In-repeat t repeat-lts.Start = search in
     let w = s .pre .1 .1 .0 .is in
-    let truth = truth-told (l .loop .store) (v .value .given .1) (e .test .ensures) in
-    command-ends _ _ _ (body-at w (looped t s) _ truth))
+    let truth = truth-told (l .loop .store) (v .value .given .1) (e .guard .ensures) in
+    (command-ends _ _ _ (body-at w (looped t s) _ truth), s .pre .1 .1 .1 .1))
     -- same-length-2
     (λ c. let l : In-repeat t repeat-lts.At-loop = search in l .loop .inv .long)
     -- returns-2
     (λ c.
     let v : In-repeat t repeat-lts.After-value = search in
-    let e : In-repeat t repeat-lts.After-test = search in
+    let e : In-repeat t repeat-lts.After-guard = search in
     let l : In-repeat t repeat-lts.At-loop = search in
     let s : In-repeat t repeat-lts.Start = search in
     let w = s .pre .1 .1 .0 .is in
-    let truth = truth-told (l .loop .store) (v .value .given .1) (e .test .ensures) in
+    let truth = truth-told (l .loop .store) (v .value .given .1) (e .guard .ensures) in
     let end = command-end _ _ _ (body-at w (looped t s) _ truth) (c .part-end .ensures) in
     ap (λ n. ok (tt upto n) (state (v .value .given .0 .1 .1 .0) (l .loop .store))) end
     ∙ sym (while-done w (looped t s) _ truth (not-true _ (c .before .if1 .taken))) ∙ l .loop .inv .same)
@@ -392,13 +394,18 @@ pub +choice+execute+repeat-spec : {M : Type 1} → statement M
     -- execute-requires
     (λ c κs.
     let v : In-repeat t repeat-lts.After-value = search in
-    let e : In-repeat t repeat-lts.After-test = search in
+    let e : In-repeat t repeat-lts.After-guard = search in
     let l : In-repeat t repeat-lts.At-loop = search in
     let s : In-repeat t repeat-lts.Start = search in
     let w = s .pre .1 .1 .0 .is in
-    let truth = truth-told (l .loop .store) (v .value .given .1) (e .test .ensures) in
-    let n = command-opened _ _ _ w .nested in
-    (omega arith, (was-read (body-at w (looped t s) _ truth), l .loop .inv .long ∙ s .pre .1 .1 .1)))
+    let truth = truth-told (l .loop .store) (v .value .given .1) (e .guard .ensures) in
+    let n = command-opened _ _ _ w .nested in (
+      omega arith,
+      (
+        was-read (body-at w (looped t s) _ truth),
+        (l .loop .inv .long ∙ s .pre .1 .1 .1 .0, s .pre .1 .1 .1 .1),
+      ),
+    ))
     (λ c. search needs)
     -- same-length-3
     (λ c.
@@ -410,11 +417,11 @@ pub +choice+execute+repeat-spec : {M : Type 1} → statement M
     let b : In-repeat t repeat-lts.After-execute = search in
     let on : In-repeat t repeat-lts.Else1 = search in
     let v : In-repeat t repeat-lts.After-value = search in
-    let e : In-repeat t repeat-lts.After-test = search in
+    let e : In-repeat t repeat-lts.After-guard = search in
     let l : In-repeat t repeat-lts.At-loop = search in
     let s : In-repeat t repeat-lts.Start = search in
     let w = s .pre .1 .1 .0 .is in
-    let truth = truth-told (l .loop .store) (v .value .given .1) (e .test .ensures) in
+    let truth = truth-told (l .loop .store) (v .value .given .1) (e .guard .ensures) in
     let m = b .execute .last .1 .1 .1 .0 in
     let stops = went-told m (c .before .end2 .given .1) (b .execute .ensures) in
     sym (body-stops w (looped t s) _ truth (not-false _ (on .if1 .left)) stops) ∙ l .loop .inv .same)
@@ -431,11 +438,11 @@ pub +choice+execute+repeat-spec : {M : Type 1} → statement M
     let b : In-repeat t repeat-lts.After-execute = search in
     let on : In-repeat t repeat-lts.Else1 = search in
     let v : In-repeat t repeat-lts.After-value = search in
-    let e : In-repeat t repeat-lts.After-test = search in
+    let e : In-repeat t repeat-lts.After-guard = search in
     let l : In-repeat t repeat-lts.At-loop = search in
     let s : In-repeat t repeat-lts.Start = search in
     let w = s .pre .1 .1 .0 .is in
-    let truth = truth-told (l .loop .store) (v .value .given .1) (e .test .ensures) in
+    let truth = truth-told (l .loop .store) (v .value .given .1) (e .guard .ensures) in
     let m = b .execute .last .1 .1 .1 .0 in
     let went-on = went-told m (z .last .given .1) (b .execute .ensures) in
     c .spent .ensures m
@@ -448,11 +455,11 @@ pub +choice+execute+repeat-spec : {M : Type 1} → statement M
     let b : In-repeat t repeat-lts.After-execute = search in
     let on : In-repeat t repeat-lts.Else1 = search in
     let v : In-repeat t repeat-lts.After-value = search in
-    let e : In-repeat t repeat-lts.After-test = search in
+    let e : In-repeat t repeat-lts.After-guard = search in
     let l : In-repeat t repeat-lts.At-loop = search in
     let s : In-repeat t repeat-lts.Start = search in
     let w = s .pre .1 .1 .0 .is in
-    let truth = truth-told (l .loop .store) (v .value .given .1) (e .test .ensures) in
+    let truth = truth-told (l .loop .store) (v .value .given .1) (e .guard .ensures) in
     let m = b .execute .last .1 .1 .1 .0 in
     let went-on = went-told m (z .last .given .1) (b .execute .ensures) in
     let h = no-higher w (looped t s) _ truth went-on in
@@ -464,11 +471,11 @@ pub +choice+execute+repeat-spec : {M : Type 1} → statement M
     let b : In-repeat t repeat-lts.After-execute = search in
     let on : In-repeat t repeat-lts.Else1 = search in
     let v : In-repeat t repeat-lts.After-value = search in
-    let e : In-repeat t repeat-lts.After-test = search in
+    let e : In-repeat t repeat-lts.After-guard = search in
     let l : In-repeat t repeat-lts.At-loop = search in
     let s : In-repeat t repeat-lts.Start = search in
     let w = s .pre .1 .1 .0 .is in
-    let truth = truth-told (l .loop .store) (v .value .given .1) (e .test .ensures) in
+    let truth = truth-told (l .loop .store) (v .value .given .1) (e .guard .ensures) in
     let m = b .execute .last .1 .1 .1 .0 in
     let went-on = went-told m (z .last .given .1) (b .execute .ensures) in
     let again = turn-again w (looped t s) _ truth (not-false _ (on .if1 .left)) went-on (c .if2 .left) in

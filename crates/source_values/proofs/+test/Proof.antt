@@ -23,7 +23,7 @@ use Rattle.source_values.proofs.smaller.Reads as smaller-reads
 use Rattle.source_values.proofs.+test.{statement}
 use Rattle.source_values.proofs.+test.Tie.{close}
 
-abbrev test : Member 2 test-kinds.ps test-kinds.r
+abbrev test : Member 3 test-kinds.ps test-kinds.r
 test = twice test-reads.Pre test-reads.Post
 
 abbrev test-claims : ℕ → test-lts.Claims
@@ -104,13 +104,13 @@ pub +test-spec : {M : Type 1} → statement M
     let w = s .pre .1 .0 .is in
     let sides = and-at _ _ _ w (k .match .keys3) in
     let left = truth-told (s .args .store .now) (v .value .given .1) (e .test2 .ensures) in
-    condition-ends _ _ _ (and-second (s .args .flag) w sides _ left))
+    (condition-ends _ _ _ (and-second (s .args .flag) w sides _ left), s .pre .1 .1 .1))
     -- smaller-requires
     (λ c κs.
     let s : In-test t test-lts.Start = search in
     let q = s .pre .1 in
     let r = c .match .rest in
-    (last-condition _ _ _ (q .0 .is) (r .0 .0 .1) (r .0 .1) (r .1), q))
+    (last-condition _ _ _ (q .0 .is) (r .0 .0 .1) (r .0 .1) (r .1), (q .0, q .1 .0)))
     -- returns
     (λ c.
     let s : In-test t test-lts.Start = search in
