@@ -21,9 +21,10 @@ use Rattle.compile.proofs.Sizes.{condition-count}
 use Rattle.record.proofs.Filling.{Filled, rest, back, rest-size, kept, one, behind, after, before}
 use Rattle.compile_sizes.specs.Parts.{Counts}
 use Rattle.compile_sizes.specs.declared.PartSize.{PartSize}
+use Rattle.compile_sizes.proofs.Counting.{size}
 use Rattle.compile_conditions.specs.Parts.{jumping, Writable, Wrote, Writes}
 use Rattle.compile_conditions.proofs.Rows.{stands}
-use Rattle.compile_conditions.proofs.Fronts.{Front, test-size, others-room, start}
+use Rattle.compile_conditions.proofs.Fronts.{Front, others-room, start}
 
 -- A condition and a command that are read in a row, from i up to j; T are their records and then R
 pub record Guard (r : Reader Condition) (s : Reader Command) (test : Condition) (body : Command) (R T : AssemblyCode)
@@ -38,7 +39,7 @@ pub record Guard (r : Reader Condition) (s : Reader Command) (test : Condition) 
 
 module _ {r : Reader Condition} {s : Reader Command} {test : Condition} {body : Command} {R T : AssemblyCode}
     {i j : ℕ} {old : List ℕ} (g : Guard r s test body R T i j old) where
-  sizes : length T ≡ test-size test + (length (ccomp body) + length R)
+  sizes : length T ≡ size false test + (length (ccomp body) + length R)
   sizes =
       let far = suc (length (ccomp body)) in
       ap length (g .is)
@@ -61,11 +62,11 @@ module _ {r : Reader Condition} {s : Reader Command} {test : Condition} {body : 
   front = front-over (suc (length (ccomp body))) refl
 
   -- The condition was measured
-  module _ {t : PartSize} (m : Counts test-size (r i) t) where
+  module _ {t : PartSize} (m : Counts (size false) (r i) t) where
     body-read : s (t .next) ≡ ok body j
     body-read = rw (m test (g .middle) (g .read-test) .0) (g .read-body)
 
-    test-records : t .records ≡ test-size test
+    test-records : t .records ≡ size false test
     test-records = m test (g .middle) (g .read-test) .1
 
     body-room : 5 * length (ccomp body) ≤ length (rest (t .records) old)
@@ -117,7 +118,7 @@ jump-back b c = JMP (negsuc (length (jumping false (suc (length (ccomp c))) b) +
 
 module _ {r : Reader Condition} {s : Reader Command} {test : Condition} {body : Command} {T : AssemblyCode} {i j : ℕ}
     {old : List ℕ} (g : Guard r s test body (jump-back test body ∷ []) T i j old) {t : PartSize}
-    (m : Counts test-size (r i) t) {xs : List ℕ} {u : PartSize}
+    (m : Counts (size false) (r i) t) {xs : List ℕ} {u : PartSize}
     (w : Writes ccomp (s (t .next)) (rest (t .records) old) xs u) where
   -- The jump was written, behind the body.
   pub with-jump-back : {ys : List ℕ} {z : ℤ}
@@ -164,7 +165,7 @@ choice p h f = record {
 
 module _ {r : Reader Condition} {s : Reader Command} {test : Condition} {body d : Command} {T : AssemblyCode}
     {i j n : ℕ} {old : List ℕ} (g : Guard r s test body (jump-over d ∷ ccomp d) T i j old) (read : s j ≡ ok d n)
-    {t : PartSize} (m : Counts test-size (r i) t) {xs : List ℕ} {u : PartSize}
+    {t : PartSize} (m : Counts (size false) (r i) t) {xs : List ℕ} {u : PartSize}
     (w : Writes ccomp (s (t .next)) (rest (t .records) old) xs u) where
   -- the buffer with the first branch in it, and the place behind the jump
   abbrev half : List ℕ

@@ -1,6 +1,7 @@
 // The first compiling stage: a text's assembly records, written into a lent buffer.
 // Each part's writer gets the buffer from where the part's records are to stand. Where a jump's distance is known only
-// after the records that it jumps over, these are written first, where they will stand.
+// after the records that it jumps over, these are written first, where they will stand. A test is measured once, which
+// remembers the sizes (`sizes`) that its writer looks up.
 ghost use mathlib.Core.Path.{_≡_};
 ghost use Prim.Native.Nat.{_<_};
 ghost use lib.IntN.{negsuc};
@@ -13,6 +14,7 @@ ghost use Rattle.text.specs.Syntax.{Command};
 ghost use Rattle.record.specs.Bytes.{assembly-kind, code-bytes, over};
 ghost use Rattle.compile.specs.Compilation.{ccomp};
 ghost use Rattle.compile.specs.Calls.{assemble-tests, assemble};
+ghost use Rattle.compile_sizes.specs.Cache.{ConditionSizes};
 ghost use Rattle.compile_conditions.specs.Parts.{Writable, Writes};
 use compile_conditions::write_condition;
 use compile_conditions::write_expression;
@@ -26,6 +28,7 @@ use text::Reading;
 use text_shape::ASSIGN;
 use text_shape::IF;
 use text_shape::SEQUENCE;
+use text_shape::SHORT_TEXT;
 use text_shape::SKIP;
 
 // ---- Commands
@@ -54,16 +57,24 @@ fn write_assignment(text: &[u8], at: usize, nest: usize, out: &mut [u8]) -> Part
 }
 
 // A sequence's records: the first command's, and the second's.
-fn write_sequence(text: &[u8], at: usize, nest: usize, out: &mut [u8]) -> PartSize
+fn write_sequence(
+    text: &[u8],
+    at: usize,
+    nest: usize,
+    sizes: &mut [u16],
+    out: &mut [u8],
+) -> PartSize
     requires { ⌜ getD (now text) at 0 ≡ 0x02 ⌝ }
     requires { ⌜ Writable ccomp 0 (command (now text) nest at) (now out) ⌝ }
+    requires { ⌜ ConditionSizes (now text) (now sizes) ⌝ }
     ensures { λ r. ⌜ Writes ccomp (command (now (text .entry)) nest at) (now (out .entry)) (now (out .exit)) r ⌝ }
+    ensures { λ _. ⌜ ConditionSizes (now (text .entry)) (now (sizes .exit)) ⌝ }
 {
-    let first = write_command(text, at + 1, nest - 1, out);
+    let first = write_command(text, at + 1, nest - 1, sizes, out);
     let middle = first.next;
     let n = first.records;
     let start = RECORD_BYTES * n;
-    let second = write_command(text, middle, nest - 1, &mut out[start..]);
+    let second = write_command(text, middle, nest - 1, sizes, &mut out[start..]);
     PartSize {
         next: second.next,
         records: n + second.records,
@@ -72,24 +83,26 @@ fn write_sequence(text: &[u8], at: usize, nest: usize, out: &mut [u8]) -> PartSi
 
 // IF's records: the condition's, which jump to the second branch; the first branch's, the jump over the second; the
 // second's. Both branches are written where they will stand, then the jump between them, then the condition.
-fn write_if(text: &[u8], at: usize, nest: usize, out: &mut [u8]) -> PartSize
+fn write_if(text: &[u8], at: usize, nest: usize, sizes: &mut [u16], out: &mut [u8]) -> PartSize
     requires { ⌜ getD (now text) at 0 ≡ 0x03 ⌝ }
     requires { ⌜ Writable ccomp 0 (command (now text) nest at) (now out) ⌝ }
+    requires { ⌜ ConditionSizes (now text) (now sizes) ⌝ }
     ensures { λ r. ⌜ Writes ccomp (command (now (text .entry)) nest at) (now (out .entry)) (now (out .exit)) r ⌝ }
+    ensures { λ _. ⌜ ConditionSizes (now (text .entry)) (now (sizes .exit)) ⌝ }
 {
-    let test = condition_size(text, at + 1, nest - 1, false);
+    let test = condition_size(text, at + 1, nest - 1, false, sizes);
     let then = test.next;
     let t = test.records;
     let start = RECORD_BYTES * t;
-    let yes = write_command(text, then, nest - 1, &mut out[start..]);
+    let yes = write_command(text, then, nest - 1, sizes, &mut out[start..]);
     let otherwise = yes.next;
     let n = yes.records;
     let jump = t + n;
     let rest = RECORD_BYTES * (jump + 1);
-    let no = write_command(text, otherwise, nest - 1, &mut out[rest..]);
+    let no = write_command(text, otherwise, nest - 1, sizes, &mut out[rest..]);
     let m = no.records;
     put_record(out, jump, JMP, m as i32);
-    write_condition(text, at + 1, nest - 1, false, n + 1, out);
+    write_condition(text, at + 1, nest - 1, false, n + 1, t, sizes, out);
     PartSize {
         next: no.next,
         records: jump + 1 + m,
@@ -98,20 +111,22 @@ fn write_if(text: &[u8], at: usize, nest: usize, out: &mut [u8]) -> PartSize
 
 // WHILE's records: the condition's, which jump to the end; the body's; and the jump back. The body is written where it
 // will stand, then the jump, then the condition.
-fn write_while(text: &[u8], at: usize, nest: usize, out: &mut [u8]) -> PartSize
+fn write_while(text: &[u8], at: usize, nest: usize, sizes: &mut [u16], out: &mut [u8]) -> PartSize
     requires { ⌜ getD (now text) at 0 ≡ 0x04 ⌝ }
     requires { ⌜ Writable ccomp 0 (command (now text) nest at) (now out) ⌝ }
+    requires { ⌜ ConditionSizes (now text) (now sizes) ⌝ }
     ensures { λ r. ⌜ Writes ccomp (command (now (text .entry)) nest at) (now (out .entry)) (now (out .exit)) r ⌝ }
+    ensures { λ _. ⌜ ConditionSizes (now (text .entry)) (now (sizes .exit)) ⌝ }
 {
-    let test = condition_size(text, at + 1, nest - 1, false);
+    let test = condition_size(text, at + 1, nest - 1, false, sizes);
     let then = test.next;
     let t = test.records;
     let start = RECORD_BYTES * t;
-    let body = write_command(text, then, nest - 1, &mut out[start..]);
+    let body = write_command(text, then, nest - 1, sizes, &mut out[start..]);
     let size = body.records;
     let jump = t + size;
     put_record(out, jump, JMP, back_over(jump));
-    write_condition(text, at + 1, nest - 1, false, size + 1, out);
+    write_condition(text, at + 1, nest - 1, false, size + 1, t, sizes, out);
     PartSize {
         next: body.next,
         records: jump + 1,
@@ -119,9 +134,11 @@ fn write_while(text: &[u8], at: usize, nest: usize, out: &mut [u8]) -> PartSize
 }
 
 // A command's records.
-fn write_command(text: &[u8], at: usize, nest: usize, out: &mut [u8]) -> PartSize
+fn write_command(text: &[u8], at: usize, nest: usize, sizes: &mut [u16], out: &mut [u8]) -> PartSize
     requires { ⌜ Writable ccomp 0 (command (now text) nest at) (now out) ⌝ }
+    requires { ⌜ ConditionSizes (now text) (now sizes) ⌝ }
     ensures { λ r. ⌜ Writes ccomp (command (now (text .entry)) nest at) (now (out .entry)) (now (out .exit)) r ⌝ }
+    ensures { λ _. ⌜ ConditionSizes (now (text .entry)) (now (sizes .exit)) ⌝ }
 {
     let byte = text[at];
     if byte == SKIP {
@@ -134,12 +151,12 @@ fn write_command(text: &[u8], at: usize, nest: usize, out: &mut [u8]) -> PartSiz
         return write_assignment(text, at, nest, out);
     }
     if byte == SEQUENCE {
-        return write_sequence(text, at, nest, out);
+        return write_sequence(text, at, nest, sizes, out);
     }
     if byte == IF {
-        return write_if(text, at, nest, out);
+        return write_if(text, at, nest, sizes, out);
     }
-    write_while(text, at, nest, out)
+    write_while(text, at, nest, sizes, out)
 }
 
 // ---- The call
@@ -159,13 +176,29 @@ pub fn test(text: &[u8], out: &[u8]) -> Reading
     reading
 }
 
+// The records of a text that passed the tests, at the start of the output, with a cache for the sizes of conditions.
+fn write_with(text: &[u8], sizes: &mut [u16], out: &mut [u8])
+    requires { ⌜ ((c : Command) × (assemble-tests (now text) (now out) ≡ gives c)) ⌝ }
+    requires { ⌜ ConditionSizes (now text) (now sizes) ⌝ }
+    ensures { λ _. ⌜ ((c : Command) → assemble-tests (now (text .entry)) (now (out .entry)) ≡ gives c
+        → now (out .exit) ≡ over (code-bytes assembly-kind (ccomp c)) (now (out .entry))) ⌝ }
+{
+    write_command(text, 0, text::DEEPEST, sizes, out);
+}
+
 // The records of a text that passed the tests, at the start of the output.
 pub fn write(text: &[u8], out: &mut [u8])
     requires { ⌜ ((c : Command) × (assemble-tests (now text) (now out) ≡ gives c)) ⌝ }
     ensures { λ _. ⌜ ((c : Command) → assemble-tests (now (text .entry)) (now (out .entry)) ≡ gives c
         → now (out .exit) ≡ over (code-bytes assembly-kind (ccomp c)) (now (out .entry))) ⌝ }
 {
-    write_command(text, 0, text::DEEPEST, out);
+    if text.len() <= SHORT_TEXT {
+        let mut sizes = [0; SHORT_TEXT];
+        write_with(text, &mut sizes, out);
+    } else {
+        let mut sizes = [0; text::LONGEST];
+        write_with(text, &mut sizes, out);
+    }
 }
 
 // A text's record count, D and n, and its records in the output; or a refusal, and the output as it was.

@@ -1,2 +1,4 @@
 pub mod Rows
 pub mod Fronts
+pub mod Sides
+pub mod Nots

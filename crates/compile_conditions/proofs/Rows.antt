@@ -13,7 +13,7 @@ use Rattle.text.proofs.Opened.{Two}
 use Rattle.record.specs.Records.{Record, AssemblyCode}
 use Rattle.record.specs.Bytes.{assembly-kind, code-bytes}
 use Rattle.record.specs.declared.Variable.{Variable}
-use Rattle.record.proofs.Filling.{Filled, rest, back, rest-size, kept, at-start, from-start, behind, after}
+use Rattle.record.proofs.Filling.{Filled, rest, back, rest-size, kept, at-start, from-start, none, behind, after}
 use Rattle.compile_sizes.specs.declared.PartSize.{PartSize}
 use Rattle.compile_conditions.specs.Parts.{Writable, Wrote, Writes}
 
@@ -119,14 +119,19 @@ module _ {A B C : Type 0} {r : Reader A} {s : Reader B} {f : A → B → C} {c :
   sizes : length T ≡ length (P (row .parts .one)) + (length (Q (row .parts .two)) + length R)
   sizes = ap length (row .is) ∙ simp length-append
 
-  pub first-writable : Writable P 0 (r i) old
-  first-writable = record {
+  -- a first part that jumps, and one that does not
+  pub first-jumping : (distance : ℕ) → distance + length (P (row .parts .one)) < 2147483648
+      → Writable P distance (r i) old
+  first-jumping distance near = record {
     part = row .parts .one;
     next = row .parts .middle;
     is = row .parts .first;
     room = omega (arith, sizes, row .room);
-    few = omega (arith, sizes, row .few);
+    few = near;
   }
+
+  pub first-writable : Writable P 0 (r i) old
+  first-writable = first-jumping 0 (omega (arith, sizes, row .few))
 
   -- What both parts and R come to
   pub record Counted (t u : PartSize) : Type 0 where
@@ -152,19 +157,22 @@ module _ {A B C : Type 0} {r : Reader A} {s : Reader B} {f : A → B → C} {c :
     second-room =
         omega (arith, rest-size (t .records) xs, first-wrote .records, kept first-stands, sizes, row .room)
 
+    pub second-read : s (t .next) ≡ ok (row .parts .two) n
+    second-read = rw (first-wrote .next) (row .parts .second)
+
+    -- a second part that jumps, and one that does not
+    pub second-jumping : (distance : ℕ) → distance + length (Q (row .parts .two)) < 2147483648
+        → Writable Q distance (s (t .next)) (rest (t .records) xs)
+    second-jumping distance near =
+        record { part = row .parts .two; next = n; is = second-read; room = second-room; few = near }
+
     pub second-writable : Writable Q 0 (s (t .next)) (rest (t .records) xs)
-    second-writable = record {
-      part = row .parts .two;
-      next = n;
-      is = rw (first-wrote .next) (row .parts .second);
-      room = second-room;
-      few = omega (arith, sizes, row .few);
-    }
+    second-writable = second-jumping 0 (omega (arith, sizes, row .few))
 
     -- The second was written
     module _ {ys : List ℕ} {u : PartSize} (v : Writes Q (s (t .next)) (rest (t .records) xs) ys u) where
       second-wrote : Wrote (Q (row .parts .two)) n (rest (t .records) xs) ys u
-      second-wrote = v (row .parts .two) n (rw (first-wrote .next) (row .parts .second))
+      second-wrote = v (row .parts .two) n second-read
 
       second-stands : Filled assembly-kind (t .records) (Q (row .parts .two)) xs (back (t .records) xs ys)
       second-stands = behind second-start (stands second-room second-wrote)
@@ -186,3 +194,10 @@ module _ {A B C : Type 0} {r : Reader A} {s : Reader B} {f : A → B → C} {c :
           let both = after (omega (arith, second-wrote .records)) second-stands w′ in
           let all = after (omega (arith, first-wrote .records)) first-stands both in
           rw (row .is) all
+
+-- Two parts with nothing behind them stand in a row when both are written.
+pub in-a-row : {A B C : Type 0} {r : Reader A} {s : Reader B} {f : A → B → C} {c : C} {P : A → AssemblyCode}
+    {Q : B → AssemblyCode} {T : AssemblyCode} {i n : ℕ} {old xs ys : List ℕ} {t u : PartSize}
+    (row : Row r s f c P Q [] T i n old) → Writes P (r i) old xs t
+    → Writes Q (s (t .next)) (rest (t .records) xs) ys u → Filled assembly-kind 0 T old (back (t .records) xs ys)
+in-a-row row w v = with-last row w v (none (omega (arith, last-room row w v)))

@@ -1,14 +1,20 @@
 // The records of expressions and conditions, written into a lent buffer.
 // Each part's writer gets the buffer from where the part's records are to stand. And's left side jumps over the right
-// side, so the right side is written first, where it will stand.
+// side, so And's writer is told how many records And has, and looks up how many the left side has (`sizes`).
 ghost use mathlib.Core.Path.{_≡_};
 ghost use Prim.Native.Nat.{_+_, _<_};
 ghost use lib.ListN.{getD};
 ghost use Rattle.base.specs.Acts.{if_then_else_};
 ghost use Rattle.text.specs.Reading.{expression, condition};
+ghost use Rattle.text.specs.Sizes.{condition-records};
 ghost use Rattle.compile.specs.Compilation.{acomp};
+ghost use Rattle.compile_sizes.specs.Parts.{Sized};
+ghost use Rattle.compile_sizes.specs.Cache.{ConditionSizes};
 ghost use Rattle.compile_conditions.specs.Parts.{jumping, Writable, Writes};
 use compile_sizes::PartSize;
+use compile_sizes::known_size;
+use compile_sizes::past_nots;
+use compile_sizes::value_size;
 use record::ADD;
 use record::JMP;
 use record::JMPGE;
@@ -20,7 +26,6 @@ use record::put_record;
 use text_shape::AND;
 use text_shape::BC;
 use text_shape::CONSTANT;
-use text_shape::NOT;
 use text_shape::PLUS;
 
 // ---- Expressions
@@ -123,66 +128,94 @@ fn reach(flag: bool, right: usize, distance: usize) -> usize
     if flag { right } else { right + distance }
 }
 
-// And's records: the left side's, which jump over the right side's where the left is false, and the right side's. The
-// right side is written where it will stand, then the left side.
+// And's records: the left side's, which jump over the right side's where the left is false, and the right side's. Of
+// And's `total` records the right side has what the left side has not.
 fn write_and(
     text: &[u8],
     at: usize,
     nest: usize,
     flag: bool,
     distance: usize,
+    total: usize,
+    sizes: &mut [u16],
     out: &mut [u8],
 ) -> PartSize
     requires { ⌜ getD (now text) at 0 ≡ 0x22 ⌝ }
     requires { ⌜ Writable (jumping flag distance) distance (condition (now text) nest at) (now out) ⌝ }
+    requires { ⌜ Sized (λ b. condition-records b flag) (condition (now text) nest at) total ⌝ }
+    requires { ⌜ ConditionSizes (now text) (now sizes) ⌝ }
     ensures { λ r. ⌜ Writes (jumping flag distance) (condition (now (text .entry)) nest at) (now (out .entry))
         (now (out .exit)) r ⌝ }
+    ensures { λ _. ⌜ ConditionSizes (now (text .entry)) (now (sizes .exit)) ⌝ }
 {
-    let first = compile_sizes::condition_size(text, at + 1, nest - 1, false);
+    let left = known_size(text, at + 1, nest - 1, sizes);
+    let right = total - left;
+    let over = reach(flag, right, distance);
+    let first = write_condition(text, at + 1, nest - 1, false, over, left, sizes, out);
     let middle = first.next;
     let n = first.records;
     let start = RECORD_BYTES * n;
-    let second = write_condition(text, middle, nest - 1, flag, distance, &mut out[start..]);
-    let m = second.records;
-    write_condition(text, at + 1, nest - 1, false, reach(flag, m, distance), out);
+    let second = write_condition(
+        text,
+        middle,
+        nest - 1,
+        flag,
+        distance,
+        right,
+        sizes,
+        &mut out[start..],
+    );
     PartSize {
         next: second.next,
-        records: n + m,
+        records: total,
     }
 }
 
-// A condition's records under a flag: they jump over `distance` records where its value is the flag.
+// A condition's records under a flag, `total` of them: they jump over `distance` records where its value is the flag.
 pub fn write_condition(
     text: &[u8],
     at: usize,
     nest: usize,
     flag: bool,
     distance: usize,
+    total: usize,
+    sizes: &mut [u16],
     out: &mut [u8],
 ) -> PartSize
     requires { ⌜ Writable (jumping flag distance) distance (condition (now text) nest at) (now out) ⌝ }
+    requires { ⌜ Sized (λ b. condition-records b flag) (condition (now text) nest at) total ⌝ }
+    requires { ⌜ ConditionSizes (now text) (now sizes) ⌝ }
     ensures { λ r. ⌜ Writes (jumping flag distance) (condition (now (text .entry)) nest at) (now (out .entry))
         (now (out .exit)) r ⌝ }
+    ensures { λ _. ⌜ ConditionSizes (now (text .entry)) (now (sizes .exit)) ⌝ }
 {
-    let byte = text[at];
+    let bare = past_nots(text, at, nest, flag);
+    let here = bare.at;
+    let byte = text[here];
     if byte == BC {
-        if compile_sizes::value_size(text[at + 1] == 1, flag) == 0 {
+        if value_size(text[here + 1] == 1, bare.flag) == 0 {
             return PartSize {
-                next: at + 2,
+                next: here + 2,
                 records: 0,
             };
         }
         put_record(out, 0, JMP, distance as i32);
         return PartSize {
-            next: at + 2,
+            next: here + 2,
             records: 1,
         };
     }
-    if byte == NOT {
-        return write_condition(text, at + 1, nest - 1, !flag, distance, out);
-    }
     if byte == AND {
-        return write_and(text, at, nest, flag, distance, out);
+        return write_and(
+            text,
+            here,
+            bare.nest,
+            bare.flag,
+            distance,
+            total,
+            sizes,
+            out,
+        );
     }
-    write_less(text, at, nest, flag, distance, out)
+    write_less(text, here, bare.nest, bare.flag, distance, out)
 }

@@ -16,3 +16,7 @@ pub record Countable {A : Type 0} (records : A → ℕ) (read : Outcome ℕ Refu
 -- Told: the position after the part, and how many records it has
 abbrev pub Counts : {A : Type 0} → (A → ℕ) → Outcome ℕ Refusal A → PartSize → Type 0
 Counts {A} records read told = (a : A) (n : ℕ) → read ≡ ok a n → (told .next ≡ n) × (told .records ≡ records a)
+
+-- The size of whatever is read there
+abbrev pub Sized : {A : Type 0} → (A → ℕ) → Outcome ℕ Refusal A → ℕ → Type 0
+Sized {A} records read size = (a : A) (n : ℕ) → read ≡ ok a n → size ≡ records a

@@ -1,18 +1,26 @@
 // How many records an expression or a condition has, as it stands in a text.
+// And's left side is asked for again when the condition is written, so measuring remembers it in a cache, `sizes`: at
+// a condition's position one more than the records that it has under false.
+ghost use Prim.Native.Nat.{ℕ};
 ghost use mathlib.Core.Path.{_≡_};
-ghost use mathlib.Core.Bool.{Bool·beq};
+ghost use mathlib.Core.Bool.{false, Bool·beq};
 ghost use lib.ListN.{getD};
-ghost use Rattle.base.specs.Acts.{if_then_else_};
+ghost use Rattle.base.specs.Acts.{ok, if_then_else_};
+ghost use Rattle.text.specs.Syntax.{Condition};
 ghost use Rattle.text.specs.Reading.{plus, expression, condition};
 ghost use Rattle.text.specs.Sizes.{expression-records, condition-records};
 ghost use Rattle.text_conditions.specs.Code.{expression-parts};
-ghost use Rattle.compile_sizes.specs.Parts.{Countable, Counts};
+ghost use Rattle.compile_sizes.specs.Parts.{Countable, Counts, Sized};
+ghost use Rattle.compile_sizes.specs.Nots.{Behind};
+ghost use Rattle.compile_sizes.specs.Cache.{ConditionSizes};
 use text_shape::AND;
 use text_shape::BC;
 use text_shape::CONSTANT;
 use text_shape::NOT;
 use text_shape::VARIABLE;
 use text_shape::constant_width;
+use text_shape::recall;
+use text_shape::remember;
 
 // A part that was measured or written: the position after it, and how many records it has.
 pub struct PartSize {
@@ -66,24 +74,44 @@ pub fn value_size(value: bool, flag: bool) -> usize
     }
 }
 
-// How many records a Not has under a flag: its condition's under the other flag.
-fn inverse_size(text: &[u8], at: usize, nest: usize, flag: bool) -> PartSize
-    requires { ⌜ getD (now text) at 0 ≡ 0x21 ⌝ }
-    requires { ⌜ Countable (λ b. condition-records b flag) (condition (now text) nest at) ⌝ }
-    ensures { λ r. ⌜ Counts (λ b. condition-records b flag) (condition (now (text .entry)) nest at) r ⌝ }
-{
-    condition_size(text, at + 1, nest - 1, !flag)
+// A condition without the Nots in front of it: where it stands, the nesting left for it, and the flag that it is
+// under.
+pub struct Bare {
+    pub at: usize,
+    pub nest: usize,
+    pub flag: bool,
 }
 
-// How many records an And has under a flag: its left side's under false, and its right side's under the flag.
-fn both_size(text: &[u8], at: usize, nest: usize, flag: bool) -> PartSize
+// Passes the Nots in front of a condition: each takes its part under the other flag.
+pub fn past_nots(text: &[u8], start: usize, deepest: usize, under: bool) -> Bare
+    requires { ⌜ ((b : Condition) × ((n : ℕ) × (condition (now text) deepest start ≡ ok b n))) ⌝ }
+    ensures { λ r. ⌜ Behind (now (text .entry)) deepest under (condition (now (text .entry)) deepest start) r ⌝ }
+    ensures { λ r. ⌜ (getD (now (text .entry)) (r .at) 0 ≡ 0x21 → ⊥) ⌝ }
+{
+    let mut at = start;
+    let mut nest = deepest;
+    let mut flag = under;
+    while text[at] == NOT {
+        at += 1;
+        nest -= 1;
+        flag = !flag;
+    }
+    Bare { at, nest, flag }
+}
+
+// How many records an And has under a flag: its left side's under false, and its right side's under the flag. The left
+// side's are remembered.
+fn both_size(text: &[u8], at: usize, nest: usize, flag: bool, sizes: &mut [u16]) -> PartSize
     requires { ⌜ getD (now text) at 0 ≡ 0x22 ⌝ }
     requires { ⌜ Countable (λ b. condition-records b flag) (condition (now text) nest at) ⌝ }
+    requires { ⌜ ConditionSizes (now text) (now sizes) ⌝ }
     ensures { λ r. ⌜ Counts (λ b. condition-records b flag) (condition (now (text .entry)) nest at) r ⌝ }
+    ensures { λ _. ⌜ ConditionSizes (now (text .entry)) (now (sizes .exit)) ⌝ }
 {
-    let first = condition_size(text, at + 1, nest - 1, false);
+    let first = condition_size(text, at + 1, nest - 1, false, sizes);
     let middle = first.next;
-    let second = condition_size(text, middle, nest - 1, flag);
+    remember(sizes, at + 1, first.records + 1);
+    let second = condition_size(text, middle, nest - 1, flag, sizes);
     PartSize {
         next: second.next,
         records: first.records + second.records,
@@ -100,22 +128,44 @@ fn less_size(text: &[u8], at: usize, nest: usize, flag: bool) -> PartSize
 }
 
 // How many records a condition has under a flag.
-pub fn condition_size(text: &[u8], at: usize, nest: usize, flag: bool) -> PartSize
+pub fn condition_size(
+    text: &[u8],
+    at: usize,
+    nest: usize,
+    flag: bool,
+    sizes: &mut [u16],
+) -> PartSize
     requires { ⌜ Countable (λ b. condition-records b flag) (condition (now text) nest at) ⌝ }
+    requires { ⌜ ConditionSizes (now text) (now sizes) ⌝ }
     ensures { λ r. ⌜ Counts (λ b. condition-records b flag) (condition (now (text .entry)) nest at) r ⌝ }
+    ensures { λ _. ⌜ ConditionSizes (now (text .entry)) (now (sizes .exit)) ⌝ }
 {
-    let byte = text[at];
+    let bare = past_nots(text, at, nest, flag);
+    let here = bare.at;
+    let byte = text[here];
     if byte == BC {
         return PartSize {
-            next: at + 2,
-            records: value_size(text[at + 1] == 1, flag),
+            next: here + 2,
+            records: value_size(text[here + 1] == 1, bare.flag),
         };
     }
-    if byte == NOT {
-        return inverse_size(text, at, nest, flag);
-    }
     if byte == AND {
-        return both_size(text, at, nest, flag);
+        return both_size(text, here, bare.nest, bare.flag, sizes);
     }
-    less_size(text, at, nest, flag)
+    less_size(text, here, bare.nest, bare.flag)
+}
+
+// How many records a condition has under false: looked up where it is known, and measured where it is not.
+pub fn known_size(text: &[u8], at: usize, nest: usize, sizes: &mut [u16]) -> usize
+    requires { ⌜ Countable (λ b. condition-records b false) (condition (now text) nest at) ⌝ }
+    requires { ⌜ ConditionSizes (now text) (now sizes) ⌝ }
+    ensures { λ r. ⌜ Sized (λ b. condition-records b false) (condition (now (text .entry)) nest at) r ⌝ }
+    ensures { λ _. ⌜ ConditionSizes (now (text .entry)) (now (sizes .exit)) ⌝ }
+{
+    let known = recall(sizes, at);
+    if known != 0 {
+        return known - 1;
+    }
+    let part = condition_size(text, at, nest, false, sizes);
+    part.records
 }

@@ -7,3 +7,4 @@ pub mod Accepted
 pub mod Heads
 pub mod Ranges
 pub mod Opened
+pub mod Same

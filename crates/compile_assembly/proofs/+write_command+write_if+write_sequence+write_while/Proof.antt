@@ -14,8 +14,9 @@ use Rattle.text.specs.Syntax.{_⨾_, IF_THEN_ELSE_}
 use Rattle.text.specs.Reading.{condition, command}
 use Rattle.text.proofs.Opened as text-says
 use Rattle.compile.specs.Compilation.{ccomp}
-use Rattle.record.proofs.Filling.{kept, none}
+use Rattle.record.proofs.Filling.{kept}
 use Rattle.record.proofs.put_record.Reads as put-record
+use Rattle.compile_sizes.proofs.Counting.{size-told}
 use Rattle.compile_sizes.proofs.condition_size.Reads as condition-size
 use Rattle.compile_conditions.proofs.Rows as rows
 use Rattle.compile_conditions.proofs.Rows.{Row}
@@ -43,16 +44,16 @@ use cycle.Tie.{close}
 
 -- ---- Measures, and what is known of each function
 
-abbrev write-command : Member 2 command-kinds.ps command-kinds.r
+abbrev write-command : Member 3 command-kinds.ps command-kinds.r
 write-command = one-more write-command-reads.Pre write-command-reads.Post
 
-abbrev write-if : Member 2 if-kinds.ps if-kinds.r
+abbrev write-if : Member 3 if-kinds.ps if-kinds.r
 write-if = twice write-if-reads.Pre write-if-reads.Post
 
-abbrev write-sequence : Member 2 sequence-kinds.ps sequence-kinds.r
+abbrev write-sequence : Member 3 sequence-kinds.ps sequence-kinds.r
 write-sequence = twice write-sequence-reads.Pre write-sequence-reads.Post
 
-abbrev write-while : Member 2 while-kinds.ps while-kinds.r
+abbrev write-while : Member 3 while-kinds.ps while-kinds.r
 write-while = twice write-while-reads.Pre write-while-reads.Post
 
 abbrev command-known : ℕ → command-lts.Claims
@@ -115,19 +116,19 @@ module _ (t : ℕ) where
   unfolding ccomp
   command-returns c =
       let s : In-write-command t command-lts.Start = search in
-      let k = text-says.skip-at _ _ _ (s .pre .1 .is) (c .if1 .taken) in
-      rows.nothing (s .pre .1) (ap ccomp (k .is)) (k .ends) refl
+      let k = text-says.skip-at _ _ _ (s .pre .1 .0 .is) (c .if1 .taken) in
+      (rows.nothing (s .pre .1 .0) (ap ccomp (k .is)) (k .ends) refl, s .pre .1 .1)
 
 -- ---- Sequence
 
 module _ (t : ℕ) where
   sequence-both : (s : In-write-sequence t sequence-lts.Start) →
       Row (command (s .args .text .now) (s .args .nest - 1)) (command (s .args .text .now) (s .args .nest - 1))
-      _⨾_ (s .pre .1 .1 .part) ccomp ccomp [] (ccomp (s .pre .1 .1 .part)) (s .args .at + 1) (s .pre .1 .1 .next)
-      (s .args .out .now)
+      _⨾_ (s .pre .1 .1 .0 .part) ccomp ccomp [] (ccomp (s .pre .1 .1 .0 .part)) (s .args .at + 1)
+      (s .pre .1 .1 .0 .next) (s .args .out .now)
   unfolding ccomp
   sequence-both s =
-      let q = s .pre .1 .1 in
+      let q = s .pre .1 .1 .0 in
       let p = text-says.sequence-at (s .args .text .now) (s .args .nest) (s .args .at) (q .is) (s .pre .1 .0) in
       let none-behind = ap (λ l. ccomp (p .one) ++ l) (sym (append-nil (ccomp (p .two)))) in
       record { parts = p; is = ap ccomp (p .is) ∙ none-behind; room = q .room; few = omega (arith, q .few) }
@@ -136,16 +137,16 @@ module _ (t : ℕ) where
 
 module _ (t : ℕ) where
   while-next-fits : (s : In-write-while t while-lts.Start) → s .args .at + 1 < 2 ^ 64
-  while-next-fits s = omega (arith, text-says.command-opened _ _ _ (s .pre .1 .1 .is) .inside, s .good .0 .0)
+  while-next-fits s = omega (arith, text-says.command-opened _ _ _ (s .pre .1 .1 .0 .is) .inside, s .good .0 .0)
 
   while-guard : (s : In-write-while t while-lts.Start) →
-      let p = text-says.while-at _ _ _ (s .pre .1 .1 .is) (s .pre .1 .0) in
+      let p = text-says.while-at _ _ _ (s .pre .1 .1 .0 .is) (s .pre .1 .0) in
       Guard (condition (s .args .text .now) (s .args .nest - 1)) (command (s .args .text .now) (s .args .nest - 1))
       (p .one) (p .two) (jump-back (p .one) (p .two) ∷ [])
-      (ccomp (s .pre .1 .1 .part)) (s .args .at + 1) (s .pre .1 .1 .next) (s .args .out .now)
+      (ccomp (s .pre .1 .1 .0 .part)) (s .args .at + 1) (s .pre .1 .1 .0 .next) (s .args .out .now)
   while-guard s =
-      let p = text-says.while-at _ _ _ (s .pre .1 .1 .is) (s .pre .1 .0) in
-      guards.loop p (s .pre .1 .1 .room) (omega (arith, s .pre .1 .1 .few))
+      let p = text-says.while-at _ _ _ (s .pre .1 .1 .0 .is) (s .pre .1 .0) in
+      guards.loop p (s .pre .1 .1 .0 .room) (omega (arith, s .pre .1 .1 .0 .few))
 
   -- how many records there are with the jump behind the body
   few : (b : In-write-while t while-lts.After-write-command)
@@ -154,32 +155,32 @@ module _ (t : ℕ) where
   few b =
       let tested : In-write-while t while-lts.After-condition-size = search in
       let s : In-write-while t while-lts.Start = search in
-      guards.all-few (while-guard s) (tested .condition-size .ensures) (b .write-command .ensures)
+      guards.all-few (while-guard s) (tested .condition-size .ensures .0) (b .write-command .ensures .0)
 
 -- ---- IF
 
 module _ (t : ℕ) where
   if-next-fits : (s : In-write-if t if-lts.Start) → s .args .at + 1 < 2 ^ 64
-  if-next-fits s = omega (arith, text-says.command-opened _ _ _ (s .pre .1 .1 .is) .inside, s .good .0 .0)
+  if-next-fits s = omega (arith, text-says.command-opened _ _ _ (s .pre .1 .1 .0 .is) .inside, s .good .0 .0)
 
   if-parts : (s : In-write-if t if-lts.Start) →
       text-says.Three (condition (s .args .text .now) (s .args .nest - 1) (s .args .at + 1))
       (command (s .args .text .now) (s .args .nest - 1)) (command (s .args .text .now) (s .args .nest - 1))
-      IF_THEN_ELSE_ (s .pre .1 .1 .part) (s .pre .1 .1 .next)
+      IF_THEN_ELSE_ (s .pre .1 .1 .0 .part) (s .pre .1 .1 .0 .next)
   if-parts s =
-      text-says.choice-at (s .args .text .now) (s .args .nest) (s .args .at) (s .pre .1 .1 .is) (s .pre .1 .0)
+      text-says.choice-at (s .args .text .now) (s .args .nest) (s .args .at) (s .pre .1 .1 .0 .is) (s .pre .1 .0)
 
   if-guard : (s : In-write-if t if-lts.Start) → let d = if-parts s .others .two in
       Guard (condition (s .args .text .now) (s .args .nest - 1)) (command (s .args .text .now) (s .args .nest - 1))
-      (if-parts s .one) (if-parts s .others .one) (jump-over d ∷ ccomp d) (ccomp (s .pre .1 .1 .part))
+      (if-parts s .one) (if-parts s .others .one) (jump-over d ∷ ccomp d) (ccomp (s .pre .1 .1 .0 .part))
       (s .args .at + 1) (if-parts s .others .middle)
       (s .args .out .now)
-  if-guard s = guards.choice (if-parts s) (s .pre .1 .1 .room) (omega (arith, s .pre .1 .1 .few))
+  if-guard s = guards.choice (if-parts s) (s .pre .1 .1 .0 .room) (omega (arith, s .pre .1 .1 .0 .few))
 
   -- where the second branch is read
   if-read : (s : In-write-if t if-lts.Start)
       → command (s .args .text .now) (s .args .nest - 1) (if-parts s .others .middle)
-      ≡ ok (if-parts s .others .two) (s .pre .1 .1 .next)
+      ≡ ok (if-parts s .others .two) (s .pre .1 .1 .0 .next)
   if-read s = if-parts s .others .second
 
   -- how many records there are with the jump behind the first branch, and with the second branch
@@ -189,7 +190,7 @@ module _ (t : ℕ) where
   yes-few a =
       let tested : In-write-if t if-lts.After-condition-size = search in
       let s : In-write-if t if-lts.Start = search in
-      omega (arith, guards.all-few (if-guard s) (tested .condition-size .ensures) (a .write-command .ensures))
+      omega (arith, guards.all-few (if-guard s) (tested .condition-size .ensures .0) (a .write-command .ensures .0))
 
   no-few : (b : In-write-if t if-lts.After-write-command2)
       → let a : In-write-if t if-lts.After-write-command = search in
@@ -200,8 +201,8 @@ module _ (t : ℕ) where
       let a : In-write-if t if-lts.After-write-command = search in
       let tested : In-write-if t if-lts.After-condition-size = search in
       let s : In-write-if t if-lts.Start = search in
-      guards.choice-few (if-guard s) (if-read s) (tested .condition-size .ensures) (a .write-command .ensures)
-      (b .write-command2 .ensures)
+      guards.choice-few (if-guard s) (if-read s) (tested .condition-size .ensures .0) (a .write-command .ensures .0)
+      (b .write-command2 .ensures .0)
 
 pub +write-command+write-if+write-sequence+write-while-spec : {M : Type 1} → statement M
 +write-command+write-if+write-sequence+write-while-spec =
@@ -210,21 +211,28 @@ pub +write-command+write-if+write-sequence+write-while-spec : {M : Type 1} → s
     command-lts.spec (command-known t) (at write-command t) (write-command .post)
     (λ c.
     let s : In-write-command t command-lts.Start = search in
-    text-says.command-opened _ _ _ (s .pre .1 .is) .inside)
+    text-says.command-opened _ _ _ (s .pre .1 .0 .is) .inside)
     (λ c.
     let s : In-write-command t command-lts.Start = search in
-    record { fits = omega (arith, text-says.command-opened _ _ _ (s .pre .1 .is) .inside, s .good .0 .0) })
+    record { fits = omega (arith, text-says.command-opened _ _ _ (s .pre .1 .0 .is) .inside, s .good .0 .0) })
     (command-returns t)
     (λ c κs. search needs)
     (λ c.
     let w : In-write-command t command-lts.After-write-assignment = search in
     w .write-assignment .kept .1 .1 .1 .0)
-    (λ c. let w : In-write-command t command-lts.After-write-assignment = search in w .write-assignment .ensures)
+    (λ c.
+    let w : In-write-command t command-lts.After-write-assignment = search in
+    let s : In-write-command t command-lts.Start = search in
+    (w .write-assignment .ensures, s .pre .1 .1))
     (λ c κs. search needs)
     (λ c. let w : In-write-command t command-lts.After-write-sequence = search in w .write-sequence .kept .1 .1 .1 .0)
+    (λ c.
+    let w : In-write-command t command-lts.After-write-sequence = search in
+    w .write-sequence .kept .1 .1 .1 .1 .0)
     (λ c. let w : In-write-command t command-lts.After-write-sequence = search in w .write-sequence .ensures)
     (λ c κs. search needs)
     (λ c. let w : In-write-command t command-lts.After-write-if = search in w .write-if .kept .1 .1 .1 .0)
+    (λ c. let w : In-write-command t command-lts.After-write-if = search in w .write-if .kept .1 .1 .1 .1 .0)
     (λ c. let w : In-write-command t command-lts.After-write-if = search in w .write-if .ensures)
     (λ c κs.
     let no-if : In-write-command t command-lts.Else4 = search in
@@ -232,65 +240,73 @@ pub +write-command+write-if+write-sequence+write-while-spec : {M : Type 1} → s
     let no-assignment : In-write-command t command-lts.Else2 = search in
     let no-skip : In-write-command t command-lts.Else1 = search in
     let s : In-write-command t command-lts.Start = search in
-    let byte = text-says.last-command (s .args .text .now) (s .args .nest) (s .args .at) (s .pre .1 .is)
+    let byte = text-says.last-command (s .args .text .now) (s .args .nest) (s .args .at) (s .pre .1 .0 .is)
     (no-skip .if1 .left) (no-assignment .if2 .left) (no-sequence .if3 .left) (no-if .if4 .left) in
     (omega (arith, s .pre .0), (byte, s .pre .1)))
     (λ c. let w : In-write-command t command-lts.After-write-while = search in w .write-while .kept .1 .1 .1 .0)
+    (λ c. let w : In-write-command t command-lts.After-write-while = search in w .write-while .kept .1 .1 .1 .1 .0)
     (λ c. let w : In-write-command t command-lts.After-write-while = search in w .write-while .ensures))
     (λ t.
     if-lts.spec (if-known t) (at write-if t) (write-if .post)
     (λ c. let s : In-write-if t if-lts.Start = search in record { fits = if-next-fits t s })
-    (λ c. let s : In-write-if t if-lts.Start = search in text-says.command-opened _ _ _ (s .pre .1 .1 .is) .nested)
-    (λ c κs. let s : In-write-if t if-lts.Start = search in fronts.countable (guards.front (if-guard t s)))
-    (λ c.
+    (λ c. let s : In-write-if t if-lts.Start = search in text-says.command-opened _ _ _ (s .pre .1 .1 .0 .is) .nested)
+    (λ c κs.
     let s : In-write-if t if-lts.Start = search in
-    record { fits = omega (arith, fronts.test-few (guards.front (if-guard t s)) (c .condition-size .ensures)) })
-    (λ c. let s : In-write-if t if-lts.Start = search in text-says.command-opened _ _ _ (s .pre .1 .1 .is) .nested)
+    (fronts.countable (guards.front (if-guard t s)), s .pre .1 .1 .1))
     (λ c.
+    let tested : In-write-if t if-lts.After-condition-size = search in
     let s : In-write-if t if-lts.Start = search in
-    fronts.start (guards.front (if-guard t s)) (c .condition-size .ensures))
+    let few = fronts.test-few (guards.front (if-guard t s)) (tested .condition-size .ensures .0) in
+    record { fits = omega (arith, few) })
+    (λ c. let s : In-write-if t if-lts.Start = search in text-says.command-opened _ _ _ (s .pre .1 .1 .0 .is) .nested)
     (λ c.
+    let tested : In-write-if t if-lts.After-condition-size = search in
     let s : In-write-if t if-lts.Start = search in
-    fronts.start (guards.front (if-guard t s)) (c .condition-size .ensures))
+    fronts.start (guards.front (if-guard t s)) (tested .condition-size .ensures .0))
+    (λ c.
+    let tested : In-write-if t if-lts.After-condition-size = search in
+    let s : In-write-if t if-lts.Start = search in
+    fronts.start (guards.front (if-guard t s)) (tested .condition-size .ensures .0))
     (λ c. search needs)
     (λ c κs.
-    let tested : In-write-if t if-lts.After-condition-size = search in
-    let s : In-write-if t if-lts.Start = search in
-    let o = text-says.command-opened _ _ _ (s .pre .1 .1 .is) in
-    (text-says.down o (s .pre .0), guards.body-writable (if-guard t s) (tested .condition-size .ensures)))
-    (λ c. let yes : In-write-if t if-lts.After-write-command = search in record { fits = omega (arith, yes-few t yes) })
-    (λ c. let yes : In-write-if t if-lts.After-write-command = search in record { fits = omega (arith, yes-few t yes) })
-    (λ c. let yes : In-write-if t if-lts.After-write-command = search in record { fits = omega (arith, yes-few t yes) })
-    (λ c. let s : In-write-if t if-lts.Start = search in text-says.command-opened _ _ _ (s .pre .1 .1 .is) .nested)
-    (λ c.
-    let yes : In-write-if t if-lts.After-write-command = search in
-    let tested : In-write-if t if-lts.After-condition-size = search in
-    let s : In-write-if t if-lts.Start = search in
-    guards.no-start (if-guard t s) (if-read t s) (tested .condition-size .ensures) (yes .write-command .ensures))
-    (λ c.
-    let yes : In-write-if t if-lts.After-write-command = search in
-    let tested : In-write-if t if-lts.After-condition-size = search in
-    let s : In-write-if t if-lts.Start = search in
-    guards.no-start (if-guard t s) (if-read t s) (tested .condition-size .ensures) (yes .write-command .ensures))
-    (λ c. search needs)
-    (λ c κs.
-    let yes : In-write-if t if-lts.After-write-command = search in
     let tested : In-write-if t if-lts.After-condition-size = search in
     let s : In-write-if t if-lts.Start = search in
     let m = tested .condition-size .ensures in
+    let o = text-says.command-opened _ _ _ (s .pre .1 .1 .0 .is) in
+    (text-says.down o (s .pre .0), (guards.body-writable (if-guard t s) (m .0), m .1)))
+    (λ c. let yes : In-write-if t if-lts.After-write-command = search in record { fits = omega (arith, yes-few t yes) })
+    (λ c. let yes : In-write-if t if-lts.After-write-command = search in record { fits = omega (arith, yes-few t yes) })
+    (λ c. let yes : In-write-if t if-lts.After-write-command = search in record { fits = omega (arith, yes-few t yes) })
+    (λ c. let s : In-write-if t if-lts.Start = search in text-says.command-opened _ _ _ (s .pre .1 .1 .0 .is) .nested)
+    (λ c.
+    let yes : In-write-if t if-lts.After-write-command = search in
+    let tested : In-write-if t if-lts.After-condition-size = search in
+    let s : In-write-if t if-lts.Start = search in
+    guards.no-start (if-guard t s) (if-read t s) (tested .condition-size .ensures .0) (yes .write-command .ensures .0))
+    (λ c.
+    let yes : In-write-if t if-lts.After-write-command = search in
+    let tested : In-write-if t if-lts.After-condition-size = search in
+    let s : In-write-if t if-lts.Start = search in
+    guards.no-start (if-guard t s) (if-read t s) (tested .condition-size .ensures .0) (yes .write-command .ensures .0))
+    (λ c. search needs)
+    (λ c κs.
+    let yes : In-write-if t if-lts.After-write-command = search in
+    let tested : In-write-if t if-lts.After-condition-size = search in
+    let s : In-write-if t if-lts.Start = search in
+    let m = tested .condition-size .ensures .0 in
     let w = yes .write-command .ensures in
-    let o = text-says.command-opened _ _ _ (s .pre .1 .1 .is) in
-    (text-says.down o (s .pre .0), guards.no-writable (if-guard t s) (if-read t s) m w))
+    let o = text-says.command-opened _ _ _ (s .pre .1 .1 .0 .is) in
+    (text-says.down o (s .pre .0), (guards.no-writable (if-guard t s) (if-read t s) m (w .0), w .1)))
     (λ c. let no : In-write-if t if-lts.After-write-command2 = search in record { sfits = omega (arith, no-few t no) })
     (λ c κs.
     let no : In-write-if t if-lts.After-write-command2 = search in
     let yes : In-write-if t if-lts.After-write-command = search in
     let tested : In-write-if t if-lts.After-condition-size = search in
     let s : In-write-if t if-lts.Start = search in
-    guards.gap-room (if-guard t s) (if-read t s) (tested .condition-size .ensures) (yes .write-command .ensures)
-    (no .write-command2 .ensures))
+    guards.gap-room (if-guard t s) (if-read t s) (tested .condition-size .ensures .0) (yes .write-command .ensures .0)
+    (no .write-command2 .ensures .0))
     (λ c. let s : In-write-if t if-lts.Start = search in record { fits = if-next-fits t s })
-    (λ c. let s : In-write-if t if-lts.Start = search in text-says.command-opened _ _ _ (s .pre .1 .1 .is) .nested)
+    (λ c. let s : In-write-if t if-lts.Start = search in text-says.command-opened _ _ _ (s .pre .1 .1 .0 .is) .nested)
     (λ c. let yes : In-write-if t if-lts.After-write-command = search in record { fits = omega (arith, yes-few t yes) })
     (λ c κs.
     let jump : In-write-if t if-lts.After-put-record = search in
@@ -300,14 +316,22 @@ pub +write-command+write-if+write-sequence+write-while-spec : {M : Type 1} → s
     let s : In-write-if t if-lts.Start = search in
     let g = if-guard t s in
     let read = if-read t s in
-    let m = tested .condition-size .ensures in
-    let w = yes .write-command .ensures in
-    let v = no .write-command2 .ensures in
+    let m = tested .condition-size .ensures .0 in
+    let w = yes .write-command .ensures .0 in
+    let v = no .write-command2 .ensures .0 in
     let small : no .write-command2 .result .records < 2147483648 = omega (arith, no-few t no) in
     let branches = guards.with-jump g read m w v (jump .put-record .ensures) (toZ-pos w32 small) in
-    fronts.test-writable (guards.front-told g m w) m branches)
+    (fronts.test-writable (guards.front-told g m w) m branches, (size-told m, no .write-command2 .ensures .1)))
     (λ c. let no : In-write-if t if-lts.After-write-command2 = search in record { fits = omega (arith, no-few t no) })
     (λ c. let no : In-write-if t if-lts.After-write-command2 = search in record { fits = omega (arith, no-few t no) })
+    -- same-length
+    (λ c.
+    let test : In-write-if t if-lts.After-write-condition = search in
+    let no : In-write-if t if-lts.After-write-command2 = search in
+    let yes : In-write-if t if-lts.After-write-command = search in
+    let tested : In-write-if t if-lts.After-condition-size = search in
+    test .write-condition .kept .1 .1 .1 .1 .1 .1 .0 ∙ no .write-command2 .kept .1 .1 .1 .0
+    ∙ yes .write-command .kept .1 .1 .1 .0 ∙ tested .condition-size .kept .1 .1 .1 .1 .0)
     (λ c.
     let test : In-write-if t if-lts.After-write-condition = search in
     let jump : In-write-if t if-lts.After-put-record = search in
@@ -317,12 +341,12 @@ pub +write-command+write-if+write-sequence+write-while-spec : {M : Type 1} → s
     let s : In-write-if t if-lts.Start = search in
     let g = if-guard t s in
     let read = if-read t s in
-    let m = tested .condition-size .ensures in
-    let w = yes .write-command .ensures in
-    let v = no .write-command2 .ensures in
+    let m = tested .condition-size .ensures .0 in
+    let w = yes .write-command .ensures .0 in
+    let v = no .write-command2 .ensures .0 in
     let small : no .write-command2 .result .records < 2147483648 = omega (arith, no-few t no) in
     let branches = guards.with-jump g read m w v (jump .put-record .ensures) (toZ-pos w32 small) in
-    kept (fronts.whole (guards.front-told g m w) m branches (test .write-condition .ensures)))
+    kept (fronts.whole (guards.front-told g m w) m branches (test .write-condition .ensures .0)))
     (λ c.
     let test : In-write-if t if-lts.After-write-condition = search in
     let jump : In-write-if t if-lts.After-put-record = search in
@@ -332,106 +356,117 @@ pub +write-command+write-if+write-sequence+write-while-spec : {M : Type 1} → s
     let s : In-write-if t if-lts.Start = search in
     let g = if-guard t s in
     let read = if-read t s in
-    let m = tested .condition-size .ensures in
-    let w = yes .write-command .ensures in
-    let v = no .write-command2 .ensures in
+    let m = tested .condition-size .ensures .0 in
+    let w = yes .write-command .ensures .0 in
+    let v = no .write-command2 .ensures .0 in
     let small : no .write-command2 .result .records < 2147483648 = omega (arith, no-few t no) in
     let branches = guards.with-jump g read m w v (jump .put-record .ensures) (toZ-pos w32 small) in
-    let all = fronts.whole (guards.front-told g m w) m branches (test .write-condition .ensures) in
-    rows.wrote-all (s .pre .1 .1) (rows.wrote (guards.no-ends g read m w v) (guards.choice-all g read m w v) all)))
+    let all = fronts.whole (guards.front-told g m w) m branches (test .write-condition .ensures .0) in
+    let wrote = rows.wrote (guards.no-ends g read m w v) (guards.choice-all g read m w v) all in
+    (rows.wrote-all (s .pre .1 .1 .0) wrote, test .write-condition .ensures .1)))
     (λ t.
     sequence-lts.spec (sequence-known t) (at write-sequence t) (write-sequence .post)
     (λ c.
     let s : In-write-sequence t sequence-lts.Start = search in
-    record { fits = omega (arith, text-says.command-opened _ _ _ (s .pre .1 .1 .is) .inside, s .good .0 .0) })
+    record { fits = omega (arith, text-says.command-opened _ _ _ (s .pre .1 .1 .0 .is) .inside, s .good .0 .0) })
     (λ c.
     let s : In-write-sequence t sequence-lts.Start = search in
-    text-says.command-opened _ _ _ (s .pre .1 .1 .is) .nested)
+    text-says.command-opened _ _ _ (s .pre .1 .1 .0 .is) .nested)
     (λ c κs.
     let s : In-write-sequence t sequence-lts.Start = search in
-    let o = text-says.command-opened _ _ _ (s .pre .1 .1 .is) in
-    (text-says.down o (s .pre .0), rows.first-writable (sequence-both t s)))
+    let o = text-says.command-opened _ _ _ (s .pre .1 .1 .0 .is) in
+    (text-says.down o (s .pre .0), (rows.first-writable (sequence-both t s), s .pre .1 .1 .1)))
     (λ c.
     let first : In-write-sequence t sequence-lts.After-write-command = search in
     let s : In-write-sequence t sequence-lts.Start = search in
-    record { fits = omega (arith, rows.first-few (sequence-both t s) (first .write-command .ensures)) })
+    record { fits = omega (arith, rows.first-few (sequence-both t s) (first .write-command .ensures .0)) })
     (λ c.
     let s : In-write-sequence t sequence-lts.Start = search in
-    text-says.command-opened _ _ _ (s .pre .1 .1 .is) .nested)
-    (λ c.
-    let first : In-write-sequence t sequence-lts.After-write-command = search in
-    let s : In-write-sequence t sequence-lts.Start = search in
-    rows.second-start (sequence-both t s) (first .write-command .ensures))
+    text-says.command-opened _ _ _ (s .pre .1 .1 .0 .is) .nested)
     (λ c.
     let first : In-write-sequence t sequence-lts.After-write-command = search in
     let s : In-write-sequence t sequence-lts.Start = search in
-    rows.second-start (sequence-both t s) (first .write-command .ensures))
+    rows.second-start (sequence-both t s) (first .write-command .ensures .0))
+    (λ c.
+    let first : In-write-sequence t sequence-lts.After-write-command = search in
+    let s : In-write-sequence t sequence-lts.Start = search in
+    rows.second-start (sequence-both t s) (first .write-command .ensures .0))
     (λ c. search needs)
     (λ c κs.
     let first : In-write-sequence t sequence-lts.After-write-command = search in
     let s : In-write-sequence t sequence-lts.Start = search in
-    let o = text-says.command-opened _ _ _ (s .pre .1 .1 .is) in
-    (text-says.down o (s .pre .0), rows.second-writable (sequence-both t s) (first .write-command .ensures)))
-    (λ c.
-    let second : In-write-sequence t sequence-lts.After-write-command2 = search in
-    let first : In-write-sequence t sequence-lts.After-write-command = search in
-    let s : In-write-sequence t sequence-lts.Start = search in
-    let size = rows.counted (sequence-both t s) (first .write-command .ensures) (second .write-command2 .ensures) in
-    record { fits = omega (arith, size .few) })
-    (λ c.
-    let second : In-write-sequence t sequence-lts.After-write-command2 = search in
-    let first : In-write-sequence t sequence-lts.After-write-command = search in
-    let s : In-write-sequence t sequence-lts.Start = search in
-    let p = sequence-both t s in
     let w = first .write-command .ensures in
-    let v = second .write-command2 .ensures in
-    kept (rows.with-last p w v (none (omega (arith, rows.last-room p w v)))))
+    let o = text-says.command-opened _ _ _ (s .pre .1 .1 .0 .is) in
+    (text-says.down o (s .pre .0), (rows.second-writable (sequence-both t s) (w .0), w .1)))
     (λ c.
     let second : In-write-sequence t sequence-lts.After-write-command2 = search in
     let first : In-write-sequence t sequence-lts.After-write-command = search in
     let s : In-write-sequence t sequence-lts.Start = search in
-    let p = sequence-both t s in
-    let w = first .write-command .ensures in
+    let w = first .write-command .ensures .0 in
+    let v = second .write-command2 .ensures .0 in
+    record { fits = omega (arith, rows.counted (sequence-both t s) w v .few) })
+    -- same-length
+    (λ c.
+    let second : In-write-sequence t sequence-lts.After-write-command2 = search in
+    let first : In-write-sequence t sequence-lts.After-write-command = search in
+    second .write-command2 .kept .1 .1 .1 .0 ∙ first .write-command .kept .1 .1 .1 .0)
+    (λ c.
+    let second : In-write-sequence t sequence-lts.After-write-command2 = search in
+    let first : In-write-sequence t sequence-lts.After-write-command = search in
+    let s : In-write-sequence t sequence-lts.Start = search in
+    kept (rows.in-a-row (sequence-both t s) (first .write-command .ensures .0) (second .write-command2 .ensures .0)))
+    (λ c.
+    let second : In-write-sequence t sequence-lts.After-write-command2 = search in
+    let first : In-write-sequence t sequence-lts.After-write-command = search in
+    let s : In-write-sequence t sequence-lts.Start = search in
+    let w = first .write-command .ensures .0 in
     let v = second .write-command2 .ensures in
-    let size = rows.counted p w v in
-    let all = rows.with-last p w v (none (omega (arith, rows.last-room p w v))) in
-    rows.wrote-all (s .pre .1 .1) (rows.wrote (size .ends) (omega (arith, size .all)) all)))
+    let size = rows.counted (sequence-both t s) w (v .0) in
+    let stands = rows.in-a-row (sequence-both t s) w (v .0) in
+    (rows.wrote-all (s .pre .1 .1 .0) (rows.wrote (size .ends) (omega (arith, size .all)) stands), v .1)))
     (λ t.
     while-lts.spec (while-known t) (at write-while t) (write-while .post)
     (λ c. let s : In-write-while t while-lts.Start = search in record { fits = while-next-fits t s })
     (λ c.
     let s : In-write-while t while-lts.Start = search in
-    text-says.command-opened _ _ _ (s .pre .1 .1 .is) .nested)
-    (λ c κs. let s : In-write-while t while-lts.Start = search in fronts.countable (guards.front (while-guard t s)))
+    text-says.command-opened _ _ _ (s .pre .1 .1 .0 .is) .nested)
+    (λ c κs.
+    let s : In-write-while t while-lts.Start = search in
+    (fronts.countable (guards.front (while-guard t s)), s .pre .1 .1 .1))
+    (λ c.
+    let tested : In-write-while t while-lts.After-condition-size = search in
+    let s : In-write-while t while-lts.Start = search in
+    let few = fronts.test-few (guards.front (while-guard t s)) (tested .condition-size .ensures .0) in
+    record { fits = omega (arith, few) })
     (λ c.
     let s : In-write-while t while-lts.Start = search in
-    record { fits = omega (arith, fronts.test-few (guards.front (while-guard t s)) (c .condition-size .ensures)) })
+    text-says.command-opened _ _ _ (s .pre .1 .1 .0 .is) .nested)
     (λ c.
+    let tested : In-write-while t while-lts.After-condition-size = search in
     let s : In-write-while t while-lts.Start = search in
-    text-says.command-opened _ _ _ (s .pre .1 .1 .is) .nested)
+    fronts.start (guards.front (while-guard t s)) (tested .condition-size .ensures .0))
     (λ c.
+    let tested : In-write-while t while-lts.After-condition-size = search in
     let s : In-write-while t while-lts.Start = search in
-    fronts.start (guards.front (while-guard t s)) (c .condition-size .ensures))
-    (λ c.
-    let s : In-write-while t while-lts.Start = search in
-    fronts.start (guards.front (while-guard t s)) (c .condition-size .ensures))
+    fronts.start (guards.front (while-guard t s)) (tested .condition-size .ensures .0))
     (λ c. search needs)
     (λ c κs.
     let tested : In-write-while t while-lts.After-condition-size = search in
     let s : In-write-while t while-lts.Start = search in
-    let o = text-says.command-opened _ _ _ (s .pre .1 .1 .is) in
-    (text-says.down o (s .pre .0), guards.body-writable (while-guard t s) (tested .condition-size .ensures)))
+    let m = tested .condition-size .ensures in
+    let o = text-says.command-opened _ _ _ (s .pre .1 .1 .0 .is) in
+    (text-says.down o (s .pre .0), (guards.body-writable (while-guard t s) (m .0), m .1)))
     (λ c. let b : In-write-while t while-lts.After-write-command = search in record { fits = omega (arith, few t b) })
     (λ c κs. let b : In-write-while t while-lts.After-write-command = search in omega (arith, few t b))
     (λ c κs.
     let body : In-write-while t while-lts.After-write-command = search in
     let tested : In-write-while t while-lts.After-condition-size = search in
     let s : In-write-while t while-lts.Start = search in
-    guards.more-room (while-guard t s) (tested .condition-size .ensures) (body .write-command .ensures))
+    guards.more-room (while-guard t s) (tested .condition-size .ensures .0) (body .write-command .ensures .0))
     (λ c. let s : In-write-while t while-lts.Start = search in record { fits = while-next-fits t s })
     (λ c.
     let s : In-write-while t while-lts.Start = search in
-    text-says.command-opened _ _ _ (s .pre .1 .1 .is) .nested)
+    text-says.command-opened _ _ _ (s .pre .1 .1 .0 .is) .nested)
     (λ c. let b : In-write-while t while-lts.After-write-command = search in record { fits = omega (arith, few t b) })
     (λ c κs.
     let jump : In-write-while t while-lts.After-put-record = search in
@@ -440,12 +475,19 @@ pub +write-command+write-if+write-sequence+write-while-spec : {M : Type 1} → s
     let tested : In-write-while t while-lts.After-condition-size = search in
     let s : In-write-while t while-lts.Start = search in
     let g = while-guard t s in
-    let m = tested .condition-size .ensures in
-    let w = body .write-command .ensures in
+    let m = tested .condition-size .ensures .0 in
+    let w = body .write-command .ensures .0 in
     let number = read-back w32 (back .back-over .ok) (back .back-over .ensures) in
     let inside = guards.with-jump-back g m w (jump .put-record .ensures) number in
-    fronts.test-writable (guards.front-told g m w) m inside)
+    (fronts.test-writable (guards.front-told g m w) m inside, (size-told m, body .write-command .ensures .1)))
     (λ c. let b : In-write-while t while-lts.After-write-command = search in record { fits = omega (arith, few t b) })
+    -- same-length
+    (λ c.
+    let test : In-write-while t while-lts.After-write-condition = search in
+    let body : In-write-while t while-lts.After-write-command = search in
+    let tested : In-write-while t while-lts.After-condition-size = search in
+    test .write-condition .kept .1 .1 .1 .1 .1 .1 .0 ∙ body .write-command .kept .1 .1 .1 .0
+    ∙ tested .condition-size .kept .1 .1 .1 .1 .0)
     (λ c.
     let test : In-write-while t while-lts.After-write-condition = search in
     let jump : In-write-while t while-lts.After-put-record = search in
@@ -454,11 +496,11 @@ pub +write-command+write-if+write-sequence+write-while-spec : {M : Type 1} → s
     let tested : In-write-while t while-lts.After-condition-size = search in
     let s : In-write-while t while-lts.Start = search in
     let g = while-guard t s in
-    let m = tested .condition-size .ensures in
-    let w = body .write-command .ensures in
+    let m = tested .condition-size .ensures .0 in
+    let w = body .write-command .ensures .0 in
     let number = read-back w32 (back .back-over .ok) (back .back-over .ensures) in
     let inside = guards.with-jump-back g m w (jump .put-record .ensures) number in
-    kept (fronts.whole (guards.front-told g m w) m inside (test .write-condition .ensures)))
+    kept (fronts.whole (guards.front-told g m w) m inside (test .write-condition .ensures .0)))
     (λ c.
     let test : In-write-while t while-lts.After-write-condition = search in
     let jump : In-write-while t while-lts.After-put-record = search in
@@ -467,9 +509,10 @@ pub +write-command+write-if+write-sequence+write-while-spec : {M : Type 1} → s
     let tested : In-write-while t while-lts.After-condition-size = search in
     let s : In-write-while t while-lts.Start = search in
     let g = while-guard t s in
-    let m = tested .condition-size .ensures in
-    let w = body .write-command .ensures in
+    let m = tested .condition-size .ensures .0 in
+    let w = body .write-command .ensures .0 in
     let number = read-back w32 (back .back-over .ok) (back .back-over .ensures) in
     let inside = guards.with-jump-back g m w (jump .put-record .ensures) number in
-    let all = fronts.whole (guards.front-told g m w) m inside (test .write-condition .ensures) in
-    rows.wrote-all (s .pre .1 .1) (rows.wrote (guards.body-ends g m w) (guards.all g m w) all)))
+    let all = fronts.whole (guards.front-told g m w) m inside (test .write-condition .ensures .0) in
+    let wrote = rows.wrote (guards.body-ends g m w) (guards.all g m w) all in
+    (rows.wrote-all (s .pre .1 .1 .0) wrote, test .write-condition .ensures .1)))
