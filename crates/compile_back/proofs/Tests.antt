@@ -25,6 +25,7 @@ use Rattle.compile_table.specs.Tested.{tested}
 use Rattle.compile_table.specs.declared.Named.{Named}
 use Rattle.compile_table.specs.declared.Named.the-variants.{Cells, NoTable}
 use Rattle.compile_table.proofs.Counting.{table-found, none-found}
+use Rattle.compile_table.proofs.Passing.{entries-most}
 use Rattle.compile_translation.specs.Standing.{Stands}
 use Rattle.compile_back.proofs.Read.{records-stand}
 
@@ -125,6 +126,7 @@ pub record Passed (code t out : List ℕ) (n : ℕ) : Type 0 where
   pub given : go-back-tests code t out ≡ gives records
   pub bytes : length t ≡ 64
   pub few : n ≤ 64
+  pub entries : (v : ℕ) → getD t v 0 < 65
   pub size : length records ≡ record-count code
   pub whole-size : length code ≡ 5 * record-count code
   pub room : length code ≤ length out
@@ -153,6 +155,7 @@ passed code t out {r} {n} e is =
       given = x .given;
       bytes = bytes;
       few = omega arith;
+      entries = λ v. omega (arith, entries-most t (table .0) v);
       size = count;
       whole-size = omega arith;
       room = omega (arith, ap length P-is);

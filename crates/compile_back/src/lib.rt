@@ -4,13 +4,11 @@ use compile::TABLE_BYTES;
 use compile_table::Named;
 use compile_translation::Direction;
 use compile_translation::rename_records;
-use record::Address;
 use record::Kind;
 use record::RECORD_BYTES;
-use record::Variable;
 ghost use mathlib.Core.Path.{_≡_};
-ghost use Prim.Native.Nat.{_<_, _≤_};
-ghost use lib.ListN.{length};
+ghost use Prim.Native.Nat.{ℕ, _<_, _≤_};
+ghost use lib.ListN.{length, getD, replicate};
 ghost use Rattle.base.specs.Answers.{gives, and-then};
 ghost use Rattle.base.specs.Code.{count-answer};
 ghost use Rattle.record.specs.Bytes.{over};
@@ -21,31 +19,19 @@ ghost use Rattle.compile_back.specs.Steps as Steps;
 // The addresses: 0, which names nothing, and one for each variable.
 const ADDRESSES: usize = base::VARIABLES + 1;
 
-// The first variable whose entry in a table is an address.
-fn find_variable(table: &[u8], address: Address) -> Variable
-    requires { ⌜ length (now table) ≤ 64 ⌝ }
-    ensures { λ r. ⌜ (r .0 ≡ Table.variable-at (now (table .entry)) 0 (address .0)) × (r .0 < 64) ⌝ }
-{
-    let mut v = 0;
-    while v < table.len() {
-        if (table[v] as usize) == address.0 {
-            return Variable(v);
-        }
-        v += 1;
-    }
-    Variable(0)
-}
-
-// A table's inverse: the variable of each address, by the address.
+// A table's inverse over zeros: the variable of each address, by the address. It goes from the last variable down, so
+// that the first one with an address is written last.
 fn invert(table: &[u8], names: &mut [u8])
     requires { ⌜ length (now table) ≤ 64 ⌝ }
+    requires { ⌜ ((v : ℕ) → getD (now table) v 0 < length (now names)) ⌝ }
+    requires { ⌜ now names ≡ replicate (length (now names)) 0 ⌝ }
     ensures { λ _. ⌜ now (names .exit) ≡ Steps.inverse (now (table .entry)) 0 (length (now (names .entry))) ⌝ }
 {
-    let mut a = 0;
-    while a < names.len() {
-        let variable = find_variable(table, Address(a));
-        names[a] = variable.0 as u8;
-        a += 1;
+    let mut v = table.len();
+    while v > 0 {
+        v -= 1;
+        let a = table[v] as usize;
+        names[a] = v as u8;
     }
 }
 

@@ -1,5 +1,6 @@
 -- `go_back` is the call's definition: its tests, then the inverse of the table, a copy of the code, and the records
 -- renamed in it.
+use mathlib.Core.Path.{refl}
 use native.Mathlib.Omega.{arith}
 use borrow.Author.Needs.{needs}
 use Rattle.base.proofs.Settled.{declined}
@@ -28,7 +29,7 @@ go-back-spec =
     let n : tie.After-n = search in
     let t : tie.After-test = search in
     let p = passed _ _ _ (t .test .ensures) (n .n .given .1) in
-    omega (arith, p .bytes))
+    (omega (arith, p .bytes), (p .entries, refl)))
     (λ c κs.
     let n : tie.After-n = search in
     let t : tie.After-test = search in

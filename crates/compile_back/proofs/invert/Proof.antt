@@ -1,20 +1,17 @@
--- `invert` is a sweep to the variables of the addresses.
-use mathlib.Core.Path.{sym, _∙_}
-use Prim.Native.Nat.{_-_, _<_}
+-- `invert` goes through the entries from the last down: those from v on are inverted.
+use mathlib.Core.Path.{_≡_}
+use Prim.Native.Nat.{_-_}
 use native.Mathlib.Omega.{arith}
-use lib.ListN.{length}
 use borrow.Author.Needs.{needs}
-use Rattle.base.proofs.Sweep.{Swept, swept-start, swept-set, swept-end}
-use Rattle.compile_back.specs.Steps.{inverse}
-use Rattle.compile_back.proofs.Finding.{length-inverse, inverse-at}
+use Rattle.compile_back.proofs.Finding.{Inverted, inverted-start, inverted-set, inverted-end}
 use Rattle.compile_back.proofs.invert.Statement.{statement}
 use Rattle.compile_back.proofs.invert.Tie as tie
 
 abbrev Inv-loop : tie.InvT-loop
-Inv-loop table names₀ a₀ names a = Swept 0 names₀ (inverse table 0 (length names₀)) names a
+Inv-loop table names₀ v₀ names v = Inverted table names₀ v names
 
 abbrev μ-loop : tie.MeasureT-loop
-μ-loop table names₀ a₀ names a = length names₀ - a
+μ-loop table names₀ v₀ names v = v
 
 pub invert-spec : {M : Type 1} → statement M
 invert-spec =
@@ -22,27 +19,30 @@ invert-spec =
     (tie.spec
     Inv-loop
     μ-loop
-    (λ c. swept-start)
-    (λ c κs. search needs)
-    (λ c.
-    let f : tie.After-find-variable Inv-loop μ-loop = search in
-    omega (arith, f .find-variable .ensures .1))
-    (λ c. search needs)
+    (λ c. let s : tie.Start Inv-loop μ-loop = search in inverted-start (s .pre .1 .1))
     (λ c. search needs)
     (λ c.
-    let going : tie.In-loop Inv-loop μ-loop = search in
     let turn : tie.At-loop Inv-loop μ-loop = search in
-    omega (arith, turn .loop .inv .long, going .loop-test .taken))
+    omega (arith, turn .loop .inv .most))
     (λ c.
-    let f : tie.After-find-variable Inv-loop μ-loop = search in
+    let turn : tie.At-loop Inv-loop μ-loop = search in
+    omega (arith, c .shared-slice-known .given (turn .loop .v - 1)))
+    (λ c.
+    let turn : tie.At-loop Inv-loop μ-loop = search in
+    let s : tie.Start Inv-loop μ-loop = search in
+    omega (arith, turn .loop .inv .most, s .pre .0))
+    (λ c.
+    let turn : tie.At-loop Inv-loop μ-loop = search in
+    let s : tie.Start Inv-loop μ-loop = search in
+    omega (arith, turn .loop .inv .long, s .pre .1 .0 (turn .loop .v - 1)))
+    (λ c. search needs)
+    (λ c.
     let going : tie.In-loop Inv-loop μ-loop = search in
     let turn : tie.At-loop Inv-loop μ-loop = search in
     let s : tie.Start Inv-loop μ-loop = search in
-    let names = s .args .names .now in
-    let a = turn .loop .a in
-    let h : a < length names = omega (arith, turn .loop .inv .long, going .loop-test .taken) in
-    swept-set (turn .loop .inv) h (f .find-variable .ensures .0 ∙ sym (inverse-at _ (length names) a h)))
+    inverted-set (turn .loop .inv) (going .loop-test .taken) (s .pre .1 .0 (turn .loop .v - 1)))
     (λ c. let turn : tie.At-loop Inv-loop μ-loop = search in turn .loop .inv .long)
     (λ c.
     let turn : tie.At-loop Inv-loop μ-loop = search in
-    swept-end (turn .loop .inv) (omega (arith, turn .loop .inv .long, c .loop-test .left)) (length-inverse _ 0 _)))
+    let none-left : turn .loop .v ≡ 0 = omega (arith, c .loop-test .left) in
+    inverted-end (rw none-left at (turn .loop .inv))))

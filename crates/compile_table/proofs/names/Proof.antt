@@ -8,7 +8,7 @@ use native.Mathlib.Omega.{arith}
 use lib.ListN.{length}
 use borrow.Author.Needs.{needs}
 use Rattle.compile.specs.Table.{times, named-in, once-each, is-table}
-use Rattle.compile_table.proofs.Counting.{times-most, once-none, once-goes, once-stops, found-table, found-none}
+use Rattle.compile_table.proofs.Counting.{once-none, once-goes, once-stops, found-table, found-none}
 use Rattle.compile_table.proofs.names.Statement.{statement}
 use Rattle.compile_table.proofs.names.Tie as tie
 
@@ -19,10 +19,10 @@ record Found (t : List ℕ) (n a : ℕ) : Type 0 where
   same : once-each t (a + 1) (n - a) ≡ is-table t
 
 abbrev Inv-loop : tie.InvT-loop
-Inv-loop table n a₀ a = Found table n a
+Inv-loop table counts n a₀ a = Found table n a
 
 abbrev μ-loop : tie.MeasureT-loop
-μ-loop table n a₀ a = n - a
+μ-loop table counts n a₀ a = n - a
 
 start : {t : List ℕ} {n : ℕ} → n ≡ named-in t → Found t n 0
 start {t} {n} e =
@@ -54,28 +54,29 @@ names-spec =
     (tie.spec
     Inv-loop
     μ-loop
+    (λ c. search needs)
     (λ c κs. search needs)
-    (λ c.
-    let s : tie.Start Inv-loop μ-loop = search in
-    omega (arith, c .how-often .ensures, times-most 0 (s .args .table .now)))
-    (λ c.
-    let s : tie.Start Inv-loop μ-loop = search in
-    start (ap (λ (k : ℕ). length (s .args .table .now) - k) (c .how-often .ensures)))
+    (λ c. let y : tie.After-tally Inv-loop μ-loop = search in start (y .tally .ensures .0))
+    (λ c. search needs)
     (λ c. search needs)
     (λ c κs. search needs)
     (λ c.
-    let count : tie.After-how-often2 Inv-loop μ-loop = search in
+    let count : tie.After-count-of Inv-loop μ-loop = search in
     let going : tie.In-loop Inv-loop μ-loop = search in
     let turn : tie.At-loop Inv-loop μ-loop = search in
+    let y : tie.After-tally Inv-loop μ-loop = search in
+    let counted = y .tally .ensures .1 (turn .loop .a + 1) (omega arith) in
     found-none _
     (fails (turn .loop .inv) (going .loop-test .taken)
-    (λ e. omega (arith, c .if1 .taken, count .how-often2 .ensures))))
+    (λ e. omega (arith, c .if1 .taken, count .count-of .ensures, counted))))
     (λ c. search needs)
     (λ c.
-    let count : tie.After-how-often2 Inv-loop μ-loop = search in
+    let count : tie.After-count-of Inv-loop μ-loop = search in
     let going : tie.In-loop Inv-loop μ-loop = search in
     let turn : tie.At-loop Inv-loop μ-loop = search in
-    next (turn .loop .inv) (going .loop-test .taken) (omega (arith, c .if1 .left, count .how-often2 .ensures)))
+    let y : tie.After-tally Inv-loop μ-loop = search in
+    let counted = y .tally .ensures .1 (turn .loop .a + 1) (omega arith) in
+    next (turn .loop .inv) (going .loop-test .taken) (omega (arith, c .if1 .left, count .count-of .ensures, counted)))
     (λ c.
     let turn : tie.At-loop Inv-loop μ-loop = search in
     found-table _ (turn .loop .inv .all) (passes (turn .loop .inv) (c .loop-test .left))))
