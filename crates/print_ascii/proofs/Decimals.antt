@@ -1,6 +1,6 @@
 -- Numbers as text: a digit more or none, and how long a number's text can be. By the digits left, and by cases on the
 -- sign.
-use mathlib.Core.Path.{_≡_, refl, ap}
+use mathlib.Core.Path.{_≡_, refl, sym, ap, _∙_}
 use mathlib.Core.Bool.{Bool, true, false}
 use mathlib.Core.List.{[], _∷_, _++_}
 use Prim.Native.Nat.{ℕ, zero, suc, _+_, _-_, _*_, _/_, _%_, _<_, _≤_}
@@ -10,7 +10,8 @@ use lib.IntN.{ℤ, pos, negsuc}
 use lib.ListN.{length, length-append}
 use lib.Signed.{ltZ}
 use mir.Syntax.{w32}
-use mir.Val.{SFits}
+use mir.Val.{SFits, toZ, ofZ}
+use mir.Facts.{toZ-ofZ}
 use borrow.Author.Tests.{lt-ltb, le-ltb, ltb-true}
 use Rattle.base.specs.Acts.{if_then_else_}
 use Rattle.word.specs.Numbers.{bits-of}
@@ -97,16 +98,30 @@ signed-length (negsuc n) = omega (arith, decimal-length (suc n))
 -- ---- The sign
 
 -- From 0 on a signed number is its bits,
-pub signed-plain : (z : ℤ) → ltZ z (pos 0) ≡ false → signed z ≡ decimal (bits-of z)
+plain : (z : ℤ) → ltZ z (pos 0) ≡ false → signed z ≡ decimal (bits-of z)
 unfolding signed bits-of
-signed-plain (pos n) h = refl
-signed-plain (negsuc n) h = absurd (let no : _≡_ {A = ℕ} 0 1 = cc in omega arith)
+plain (pos n) h = refl
+plain (negsuc n) h = absurd (let no : _≡_ {A = ℕ} 0 1 = cc in omega arith)
 
 -- and below 0 it is a minus, and what its bits leave of 4294967296.
-pub signed-minus : (z : ℤ) → SFits w32 z → ltZ z (pos 0) ≡ true
-    → signed z ≡ 45 ∷ decimal (4294967296 - bits-of z)
+minus : (z : ℤ) → SFits w32 z → ltZ z (pos 0) ≡ true → signed z ≡ 45 ∷ decimal (4294967296 - bits-of z)
 unfolding signed bits-of
-signed-minus (pos n) f h = absurd (omega (arith, ltb-true n 0 h))
-signed-minus (negsuc n) f h =
+minus (pos n) f h = absurd (omega (arith, ltb-true n 0 h))
+minus (negsuc n) f h =
     let size : suc n ≡ 4294967296 - bits-of (negsuc n) = omega (arith, f .sfits) in
     ap (λ (m : ℕ). 45 ∷ decimal m) size
+
+-- The same of the bits n and the test b that the code made of z as it is read back.
+module _ (z : ℤ) (fits : SFits w32 z) {n : ℕ} {b : Bool} (bits : n ≡ bits-of (toZ w32 (ofZ w32 z)))
+    (test : b ≡ ltZ (toZ w32 (ofZ w32 z)) (pos 0)) where
+  same-bits : bits-of z ≡ n
+  same-bits = sym (bits ∙ ap bits-of (toZ-ofZ fits))
+
+  tested : {t : Bool} → b ≡ t → ltZ z (pos 0) ≡ t
+  tested e = sym (test ∙ ap (λ (y : ℤ). ltZ y (pos 0)) (toZ-ofZ fits)) ∙ e
+
+  pub signed-plain : b ≡ false → signed z ≡ decimal n
+  signed-plain e = plain z (tested e) ∙ ap decimal same-bits
+
+  pub signed-minus : b ≡ true → signed z ≡ 45 ∷ decimal (4294967296 - n)
+  signed-minus e = minus z fits (tested e) ∙ ap (λ (m : ℕ). 45 ∷ decimal (4294967296 - m)) same-bits
