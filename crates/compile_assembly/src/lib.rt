@@ -19,6 +19,7 @@ ghost use Rattle.compile_conditions.specs.Parts.{Writable, Writes};
 use compile_conditions::write_condition;
 use compile_conditions::write_expression;
 use compile_sizes::PartSize;
+use compile_sizes::SLOTS;
 use compile_sizes::condition_size;
 use record::JMP;
 use record::RECORD_BYTES;
@@ -28,7 +29,6 @@ use text::Reading;
 use text_shape::ASSIGN;
 use text_shape::IF;
 use text_shape::SEQUENCE;
-use text_shape::SHORT_TEXT;
 use text_shape::SKIP;
 
 // ---- Commands
@@ -61,7 +61,7 @@ fn write_sequence(
     text: &[u8],
     at: usize,
     nest: usize,
-    sizes: &mut [u16],
+    sizes: &mut [u32; SLOTS],
     out: &mut [u8],
 ) -> PartSize
     requires { ⌜ getD (now text) at 0 ≡ 0x02 ⌝ }
@@ -83,7 +83,7 @@ fn write_sequence(
 
 // IF's records: the condition's, which jump to the second branch; the first branch's, the jump over the second; the
 // second's. Both branches are written where they will stand, then the jump between them, then the condition.
-fn write_if(text: &[u8], at: usize, nest: usize, sizes: &mut [u16], out: &mut [u8]) -> PartSize
+fn write_if(text: &[u8], at: usize, nest: usize, sizes: &mut [u32; SLOTS], out: &mut [u8]) -> PartSize
     requires { ⌜ getD (now text) at 0 ≡ 0x03 ⌝ }
     requires { ⌜ Writable ccomp 0 (command (now text) nest at) (now out) ⌝ }
     requires { ⌜ ConditionSizes (now text) (now sizes) ⌝ }
@@ -111,7 +111,7 @@ fn write_if(text: &[u8], at: usize, nest: usize, sizes: &mut [u16], out: &mut [u
 
 // WHILE's records: the condition's, which jump to the end; the body's; and the jump back. The body is written where it
 // will stand, then the jump, then the condition.
-fn write_while(text: &[u8], at: usize, nest: usize, sizes: &mut [u16], out: &mut [u8]) -> PartSize
+fn write_while(text: &[u8], at: usize, nest: usize, sizes: &mut [u32; SLOTS], out: &mut [u8]) -> PartSize
     requires { ⌜ getD (now text) at 0 ≡ 0x04 ⌝ }
     requires { ⌜ Writable ccomp 0 (command (now text) nest at) (now out) ⌝ }
     requires { ⌜ ConditionSizes (now text) (now sizes) ⌝ }
@@ -134,7 +134,7 @@ fn write_while(text: &[u8], at: usize, nest: usize, sizes: &mut [u16], out: &mut
 }
 
 // A command's records.
-fn write_command(text: &[u8], at: usize, nest: usize, sizes: &mut [u16], out: &mut [u8]) -> PartSize
+fn write_command(text: &[u8], at: usize, nest: usize, sizes: &mut [u32; SLOTS], out: &mut [u8]) -> PartSize
     requires { ⌜ Writable ccomp 0 (command (now text) nest at) (now out) ⌝ }
     requires { ⌜ ConditionSizes (now text) (now sizes) ⌝ }
     ensures { λ r. ⌜ Writes ccomp (command (now (text .entry)) nest at) (now (out .entry)) (now (out .exit)) r ⌝ }
@@ -176,29 +176,14 @@ pub fn test(text: &[u8], out: &[u8]) -> Reading
     reading
 }
 
-// The records of a text that passed the tests, at the start of the output, with a cache for the sizes of conditions.
-fn write_with(text: &[u8], sizes: &mut [u16], out: &mut [u8])
-    requires { ⌜ ((c : Command) × (assemble-tests (now text) (now out) ≡ gives c)) ⌝ }
-    requires { ⌜ ConditionSizes (now text) (now sizes) ⌝ }
-    ensures { λ _. ⌜ ((c : Command) → assemble-tests (now (text .entry)) (now (out .entry)) ≡ gives c
-        → now (out .exit) ≡ over (code-bytes assembly-kind (ccomp c)) (now (out .entry))) ⌝ }
-{
-    write_command(text, 0, text::DEEPEST, sizes, out);
-}
-
 // The records of a text that passed the tests, at the start of the output.
 pub fn write(text: &[u8], out: &mut [u8])
     requires { ⌜ ((c : Command) × (assemble-tests (now text) (now out) ≡ gives c)) ⌝ }
     ensures { λ _. ⌜ ((c : Command) → assemble-tests (now (text .entry)) (now (out .entry)) ≡ gives c
         → now (out .exit) ≡ over (code-bytes assembly-kind (ccomp c)) (now (out .entry))) ⌝ }
 {
-    if text.len() <= SHORT_TEXT {
-        let mut sizes = [0; SHORT_TEXT];
-        write_with(text, &mut sizes, out);
-    } else {
-        let mut sizes = [0; text::LONGEST];
-        write_with(text, &mut sizes, out);
-    }
+    let mut sizes = [0; SLOTS];
+    write_command(text, 0, text::DEEPEST, &mut sizes, out);
 }
 
 // A text's record count, D and n, and its records in the output; or a refusal, and the output as it was.

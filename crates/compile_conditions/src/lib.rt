@@ -12,6 +12,7 @@ ghost use Rattle.compile_sizes.specs.Parts.{Sized};
 ghost use Rattle.compile_sizes.specs.Cache.{ConditionSizes};
 ghost use Rattle.compile_conditions.specs.Parts.{jumping, Writable, Writes};
 use compile_sizes::PartSize;
+use compile_sizes::SLOTS;
 use compile_sizes::known_size;
 use compile_sizes::past_nots;
 use compile_sizes::value_size;
@@ -137,7 +138,7 @@ fn write_and(
     flag: bool,
     distance: usize,
     total: usize,
-    sizes: &mut [u16],
+    sizes: &mut [u32; SLOTS],
     out: &mut [u8],
 ) -> PartSize
     requires { ⌜ getD (now text) at 0 ≡ 0x22 ⌝ }
@@ -179,7 +180,7 @@ pub fn write_condition(
     flag: bool,
     distance: usize,
     total: usize,
-    sizes: &mut [u16],
+    sizes: &mut [u32; SLOTS],
     out: &mut [u8],
 ) -> PartSize
     requires { ⌜ Writable (jumping flag distance) distance (condition (now text) nest at) (now out) ⌝ }

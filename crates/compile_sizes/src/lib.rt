@@ -1,6 +1,6 @@
 // How many records an expression or a condition has, as it stands in a text.
-// And's left side is asked for again when the condition is written, so measuring remembers it in a cache, `sizes`: at
-// a condition's position one more than the records that it has under false.
+// And's left side is asked for again when the condition is written, so measuring remembers it in a cache, `sizes`: of a
+// condition's position one more than the records that it has under false.
 ghost use Prim.Native.Nat.{ℕ};
 ghost use mathlib.Core.Path.{_≡_};
 ghost use mathlib.Core.Bool.{false, Bool·beq};
@@ -12,21 +12,54 @@ ghost use Rattle.text.specs.Sizes.{expression-records, condition-records};
 ghost use Rattle.text_conditions.specs.Code.{expression-parts};
 ghost use Rattle.compile_sizes.specs.Parts.{Countable, Counts, Sized};
 ghost use Rattle.compile_sizes.specs.Nots.{Behind};
-ghost use Rattle.compile_sizes.specs.Cache.{ConditionSizes};
+ghost use Rattle.compile_sizes.specs.Cache.{looked-up, noted, ConditionSizes};
 use text_shape::AND;
 use text_shape::BC;
 use text_shape::CONSTANT;
 use text_shape::NOT;
 use text_shape::VARIABLE;
 use text_shape::constant_width;
-use text_shape::recall;
-use text_shape::remember;
 
 // A part that was measured or written: the position after it, and how many records it has.
 pub struct PartSize {
     pub next: usize,
     pub records: usize,
 }
+
+// ---- The cache
+
+// How many conditions a cache of sizes has room for. (A slot has a position in its upper half, a size in its lower.)
+pub const SLOTS: usize = 64;
+
+fn wide(entry: u32) -> usize
+    ensures { λ r. ⌜ r ≡ entry ⌝ }
+{
+    entry as usize
+}
+
+// What a cache knows of a position, 0 for nothing.
+fn recall(sizes: &[u32; SLOTS], at: usize) -> usize
+    ensures { λ r. ⌜ r ≡ looked-up (now (sizes .entry)) at ⌝ }
+{
+    let entry = wide(sizes[at % SLOTS]);
+    if entry / 0x10000 == at {
+        return entry % 0x10000;
+    }
+    0
+}
+
+// Notes a value of a position in the position's slot, whatever stood there.
+fn remember(sizes: &mut [u32; SLOTS], at: usize, value: usize)
+    ensures { λ _. ⌜ now (sizes .exit) ≡ noted (now (sizes .entry)) at value ⌝ }
+{
+    if at < 0x10000 {
+        if value < 0x10000 {
+            sizes[at % SLOTS] = (at * 0x10000 + value) as u32;
+        }
+    }
+}
+
+// ---- Expressions
 
 // How many records the two expressions of a Plus or a Less have, and one more; `nest` is the nesting left for them.
 fn two_sizes(text: &[u8], at: usize, nest: usize) -> PartSize
@@ -62,6 +95,8 @@ fn expression_size(text: &[u8], at: usize, nest: usize) -> PartSize
     }
     two_sizes(text, at, nest - 1)
 }
+
+// ---- Conditions
 
 // How many records Bc has under a flag: one if its value equals the flag.
 pub fn value_size(value: bool, flag: bool) -> usize
@@ -101,7 +136,7 @@ pub fn past_nots(text: &[u8], start: usize, deepest: usize, under: bool) -> Bare
 
 // How many records an And has under a flag: its left side's under false, and its right side's under the flag. The left
 // side's are remembered.
-fn both_size(text: &[u8], at: usize, nest: usize, flag: bool, sizes: &mut [u16]) -> PartSize
+fn both_size(text: &[u8], at: usize, nest: usize, flag: bool, sizes: &mut [u32; SLOTS]) -> PartSize
     requires { ⌜ getD (now text) at 0 ≡ 0x22 ⌝ }
     requires { ⌜ Countable (λ b. condition-records b flag) (condition (now text) nest at) ⌝ }
     requires { ⌜ ConditionSizes (now text) (now sizes) ⌝ }
@@ -133,7 +168,7 @@ pub fn condition_size(
     at: usize,
     nest: usize,
     flag: bool,
-    sizes: &mut [u16],
+    sizes: &mut [u32; SLOTS],
 ) -> PartSize
     requires { ⌜ Countable (λ b. condition-records b flag) (condition (now text) nest at) ⌝ }
     requires { ⌜ ConditionSizes (now text) (now sizes) ⌝ }
@@ -156,7 +191,7 @@ pub fn condition_size(
 }
 
 // How many records a condition has under false: looked up where it is known, and measured where it is not.
-pub fn known_size(text: &[u8], at: usize, nest: usize, sizes: &mut [u16]) -> usize
+pub fn known_size(text: &[u8], at: usize, nest: usize, sizes: &mut [u32; SLOTS]) -> usize
     requires { ⌜ Countable (λ b. condition-records b false) (condition (now text) nest at) ⌝ }
     requires { ⌜ ConditionSizes (now text) (now sizes) ⌝ }
     ensures { λ r. ⌜ Sized (λ b. condition-records b false) (condition (now (text .entry)) nest at) r ⌝ }

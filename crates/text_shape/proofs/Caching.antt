@@ -63,14 +63,21 @@ module _ {so : ℕ → ℕ → Type 0} {cache : List ℕ} (r : Right so cache) (
           let same = getD-set-other cache i j value 0 q in
           subst (so j) (sym same) (r .right j (λ z. e (same ∙ z)))
 
+  -- (past its end nothing is put)
+  pub stays-set : ((value ≡ 0 → ⊥) → so i value) → Right so (set cache i value)
+  stays-set h = by (ltb i (length cache)) refl
+    where
+      by : (t : Bool) → ltb i (length cache) ≡ t → Right so (set cache i value)
+      by true t = put h (ltb-true _ _ t)
+      by false t = rw (set-out cache i value (ltb-false _ _ t)) r
+
   -- 0 says nothing, so it is right anywhere
   pub stays-if : ((value ≡ 0 → ⊥) → so i value) → Right so (noted cache i value)
-  stays-if h = by (ltb value 0x10000) refl (ltb i (length cache)) refl
+  stays-if h = by (ltb value 0x10000) refl
     where
-      by : (s : Bool) → ltb value 0x10000 ≡ s → (t : Bool) → ltb i (length cache) ≡ t → Right so (noted cache i value)
-      by true s true t = rw (noted-in cache i value (ltb-true _ _ s)) (put h (ltb-true _ _ t))
-      by true s false t = rw (noted-out cache i value (ltb-false _ _ t)) r
-      by false s u t = rw (noted-large cache i value (ltb-false _ _ s)) r
+      by : (s : Bool) → ltb value 0x10000 ≡ s → Right so (noted cache i value)
+      by true s = rw (noted-in cache i value (ltb-true _ _ s)) (stays-set h)
+      by false s = rw (noted-large cache i value (ltb-false _ _ s)) r
 
   pub stays : so i value → Right so (noted cache i value)
   stays h = stays-if (λ n. h)

@@ -225,13 +225,11 @@ pub +write-command+write-if+write-sequence+write-while-spec : {M : Type 1} → s
     let s : In-write-command t command-lts.Start = search in
     (w .write-assignment .ensures, s .pre .1 .1))
     (λ c κs. search needs)
-    (λ c. let w : In-write-command t command-lts.After-write-sequence = search in w .write-sequence .kept .1 .1 .1 .0)
     (λ c.
     let w : In-write-command t command-lts.After-write-sequence = search in
     w .write-sequence .kept .1 .1 .1 .1 .0)
     (λ c. let w : In-write-command t command-lts.After-write-sequence = search in w .write-sequence .ensures)
     (λ c κs. search needs)
-    (λ c. let w : In-write-command t command-lts.After-write-if = search in w .write-if .kept .1 .1 .1 .0)
     (λ c. let w : In-write-command t command-lts.After-write-if = search in w .write-if .kept .1 .1 .1 .1 .0)
     (λ c. let w : In-write-command t command-lts.After-write-if = search in w .write-if .ensures)
     (λ c κs.
@@ -243,7 +241,6 @@ pub +write-command+write-if+write-sequence+write-while-spec : {M : Type 1} → s
     let byte = text-says.last-command (s .args .text .now) (s .args .nest) (s .args .at) (s .pre .1 .0 .is)
     (no-skip .if1 .left) (no-assignment .if2 .left) (no-sequence .if3 .left) (no-if .if4 .left) in
     (omega (arith, s .pre .0), (byte, s .pre .1)))
-    (λ c. let w : In-write-command t command-lts.After-write-while = search in w .write-while .kept .1 .1 .1 .0)
     (λ c. let w : In-write-command t command-lts.After-write-while = search in w .write-while .kept .1 .1 .1 .1 .0)
     (λ c. let w : In-write-command t command-lts.After-write-while = search in w .write-while .ensures))
     (λ t.
@@ -327,13 +324,6 @@ pub +write-command+write-if+write-sequence+write-while-spec : {M : Type 1} → s
     -- same-length
     (λ c.
     let test : In-write-if t if-lts.After-write-condition = search in
-    let no : In-write-if t if-lts.After-write-command2 = search in
-    let yes : In-write-if t if-lts.After-write-command = search in
-    let tested : In-write-if t if-lts.After-condition-size = search in
-    test .write-condition .kept .1 .1 .1 .1 .1 .1 .0 ∙ no .write-command2 .kept .1 .1 .1 .0
-    ∙ yes .write-command .kept .1 .1 .1 .0 ∙ tested .condition-size .kept .1 .1 .1 .1 .0)
-    (λ c.
-    let test : In-write-if t if-lts.After-write-condition = search in
     let jump : In-write-if t if-lts.After-put-record = search in
     let no : In-write-if t if-lts.After-write-command2 = search in
     let yes : In-write-if t if-lts.After-write-command = search in
@@ -409,10 +399,6 @@ pub +write-command+write-if+write-sequence+write-while-spec : {M : Type 1} → s
     (λ c.
     let second : In-write-sequence t sequence-lts.After-write-command2 = search in
     let first : In-write-sequence t sequence-lts.After-write-command = search in
-    second .write-command2 .kept .1 .1 .1 .0 ∙ first .write-command .kept .1 .1 .1 .0)
-    (λ c.
-    let second : In-write-sequence t sequence-lts.After-write-command2 = search in
-    let first : In-write-sequence t sequence-lts.After-write-command = search in
     let s : In-write-sequence t sequence-lts.Start = search in
     kept (rows.in-a-row (sequence-both t s) (first .write-command .ensures .0) (second .write-command2 .ensures .0)))
     (λ c.
@@ -482,12 +468,6 @@ pub +write-command+write-if+write-sequence+write-while-spec : {M : Type 1} → s
     (fronts.test-writable (guards.front-told g m w) m inside, (size-told m, body .write-command .ensures .1)))
     (λ c. let b : In-write-while t while-lts.After-write-command = search in record { fits = omega (arith, few t b) })
     -- same-length
-    (λ c.
-    let test : In-write-while t while-lts.After-write-condition = search in
-    let body : In-write-while t while-lts.After-write-command = search in
-    let tested : In-write-while t while-lts.After-condition-size = search in
-    test .write-condition .kept .1 .1 .1 .1 .1 .1 .0 ∙ body .write-command .kept .1 .1 .1 .0
-    ∙ tested .condition-size .kept .1 .1 .1 .1 .0)
     (λ c.
     let test : In-write-while t while-lts.After-write-condition = search in
     let jump : In-write-while t while-lts.After-put-record = search in

@@ -247,12 +247,6 @@ pub +write-and+write-condition-spec : {M : Type 1} → statement M
     (λ c.
     let second : In-write-and t and-lts.After-write-condition2 = search in
     let first : In-write-and t and-lts.After-write-condition = search in
-    let known : In-write-and t and-lts.After-known-size = search in
-    second .write-condition2 .kept .1 .1 .1 .1 .1 .1 .0 ∙ first .write-condition .kept .1 .1 .1 .1 .1 .1 .0
-    ∙ known .known-size .kept .1 .1 .1 .0)
-    (λ c.
-    let second : In-write-and t and-lts.After-write-condition2 = search in
-    let first : In-write-and t and-lts.After-write-condition = search in
     let far : In-write-and t and-lts.After-reach = search in
     kept (rows.in-a-row (row t far) (first .write-condition .ensures .0) (second .write-condition2 .ensures .0)))
     -- returns
@@ -313,7 +307,6 @@ pub +write-and+write-condition-spec : {M : Type 1} → statement M
       omega (arith, behind _ _ read .nest, s .pre .0),
       (on .if3 .taken, (found t p, (sized-behind behind read (s .pre .1 .1 .0), s .pre .1 .1 .1))),
     ))
-    (λ c. let w : In-write-condition t lts.After-write-and = search in w .write-and .kept .1 .1 .1 .1 .1 .1 .0)
     (λ c. let w : In-write-condition t lts.After-write-and = search in w .write-and .kept .1 .1 .1 .1 .1 .1 .1 .0)
     (λ c.
     let w : In-write-condition t lts.After-write-and = search in

@@ -11,13 +11,13 @@ use Rattle.text.specs.Syntax.{And}
 use Rattle.text.specs.Reading.{condition}
 use Rattle.text.specs.Sizes.{condition-records}
 use Rattle.text.proofs.Opened as text-says
-use Rattle.text_shape.proofs.remember.Reads as remember
 use Rattle.compile_sizes.specs.Parts.{Countable}
 use Rattle.compile_sizes.specs.Cache.{ConditionSizes}
 use Rattle.compile_sizes.proofs.Caching.{stays-right}
 use Rattle.compile_sizes.proofs.Counting.{size, told, Pair, first-countable, second-countable, Both, both}
 use Rattle.compile_sizes.proofs.Nots as nots
 use Rattle.compile_sizes.proofs.past_nots.Reads as past-nots
+use Rattle.compile_sizes.proofs.remember.Reads as remember
 use Rattle.compile_sizes.proofs.less_size.Reads as less-size
 use Rattle.compile_sizes.proofs.value_size.Reads as value-size
 use Rattle.compile_sizes.proofs.condition_size.Reads as condition-size-reads
@@ -148,11 +148,6 @@ pub +both-size+condition-size-spec : {M : Type 1} → statement M
     record { fits = omega (arith, both-counted t two .few) })
     (λ c.
     let two : In-both-size t both-lts.After-condition-size2 = search in
-    let noted : In-both-size t both-lts.After-remember = search in
-    let one : In-both-size t both-lts.After-condition-size = search in
-    two .condition-size2 .kept .1 .1 .1 .1 .0 ∙ noted .remember .kept .0 ∙ one .condition-size .kept .1 .1 .1 .1 .0)
-    (λ c.
-    let two : In-both-size t both-lts.After-condition-size2 = search in
     let s : In-both-size t both-lts.Start = search in
     let b = both-counted t two in
     (told (s .pre .1 .1 .0) (b .ends) (omega (arith, b .all)), two .condition-size2 .ensures .1)))
@@ -185,7 +180,6 @@ pub +both-size+condition-size-spec : {M : Type 1} → statement M
     let s : In-condition-size t lts.Start = search in
     let nest = p .past-nots .ensures .0 _ _ (s .pre .1 .0 .is) .nest in
     (omega (arith, nest, s .pre .0), (on .if2 .taken, (found t p, s .pre .1 .1))))
-    (λ c. let w : In-condition-size t lts.After-both-size = search in w .both-size .kept .1 .1 .1 .1 .0)
     (λ c.
     let w : In-condition-size t lts.After-both-size = search in
     let p : In-condition-size t lts.After-past-nots = search in

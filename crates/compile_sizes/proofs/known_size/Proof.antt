@@ -1,8 +1,8 @@
 -- `known_size` meets its contract: what the cache knows is right for every condition that is read there, and else the
 -- condition is measured.
-use mathlib.Core.Path.{_∙_}
 use native.Mathlib.Omega.{arith}
 use borrow.Author.Needs.{needs}
+use Rattle.compile_sizes.proofs.Caching.{known}
 use Rattle.compile_sizes.proofs.Counting.{size-told}
 use Rattle.compile_sizes.proofs.known_size.Statement.{statement}
 use Rattle.compile_sizes.proofs.known_size.Tie as tie
@@ -13,20 +13,17 @@ known-size-spec =
     (tie.spec
     (λ c κs. search needs)
     (λ c. search needs)
-    (λ c. search needs)
     -- returns
     (λ c.
     let k : tie.After-recall = search in
     let some : tie.Then1 = search in
-    let s : tie.Start = search in
-    let e = k .recall .ensures in (
+    let s : tie.Start = search in (
       λ b n read.
-          let right = s .pre .1 .right (s .args .at) (λ z. some .if1 .taken (e ∙ z)) (s .args .nest) b n read in
-          omega (arith, e, right),
+          let right = known (s .args .text .now) (s .pre .1) (s .args .at) (s .args .nest) (k .recall .ensures) (some .if1 .taken) b n read in
+          omega (arith, right),
       s .pre .1,
     ))
     (λ c κs. search needs)
-    (λ c. search needs)
     -- returns-2
     (λ c.
     let m : tie.After-condition-size = search in
