@@ -83,7 +83,13 @@ fn write_sequence(
 
 // IF's records: the condition's, which jump to the second branch; the first branch's, the jump over the second; the
 // second's. Both branches are written where they will stand, then the jump between them, then the condition.
-fn write_if(text: &[u8], at: usize, nest: usize, sizes: &mut [u32; SLOTS], out: &mut [u8]) -> PartSize
+fn write_if(
+    text: &[u8],
+    at: usize,
+    nest: usize,
+    sizes: &mut [u32; SLOTS],
+    out: &mut [u8],
+) -> PartSize
     requires { ⌜ getD (now text) at 0 ≡ 0x03 ⌝ }
     requires { ⌜ Writable ccomp 0 (command (now text) nest at) (now out) ⌝ }
     requires { ⌜ ConditionSizes (now text) (now sizes) ⌝ }
@@ -111,7 +117,13 @@ fn write_if(text: &[u8], at: usize, nest: usize, sizes: &mut [u32; SLOTS], out: 
 
 // WHILE's records: the condition's, which jump to the end; the body's; and the jump back. The body is written where it
 // will stand, then the jump, then the condition.
-fn write_while(text: &[u8], at: usize, nest: usize, sizes: &mut [u32; SLOTS], out: &mut [u8]) -> PartSize
+fn write_while(
+    text: &[u8],
+    at: usize,
+    nest: usize,
+    sizes: &mut [u32; SLOTS],
+    out: &mut [u8],
+) -> PartSize
     requires { ⌜ getD (now text) at 0 ≡ 0x04 ⌝ }
     requires { ⌜ Writable ccomp 0 (command (now text) nest at) (now out) ⌝ }
     requires { ⌜ ConditionSizes (now text) (now sizes) ⌝ }
@@ -134,7 +146,13 @@ fn write_while(text: &[u8], at: usize, nest: usize, sizes: &mut [u32; SLOTS], ou
 }
 
 // A command's records.
-fn write_command(text: &[u8], at: usize, nest: usize, sizes: &mut [u32; SLOTS], out: &mut [u8]) -> PartSize
+fn write_command(
+    text: &[u8],
+    at: usize,
+    nest: usize,
+    sizes: &mut [u32; SLOTS],
+    out: &mut [u8],
+) -> PartSize
     requires { ⌜ Writable ccomp 0 (command (now text) nest at) (now out) ⌝ }
     requires { ⌜ ConditionSizes (now text) (now sizes) ⌝ }
     ensures { λ r. ⌜ Writes ccomp (command (now (text .entry)) nest at) (now (out .entry)) (now (out .exit)) r ⌝ }

@@ -73,6 +73,7 @@ stays-right text nest i {sizes} {t} small right q c = by (ltb i 65536) refl (ltb
     sized other b n e =
         let same = same-condition text small nest other i (q .is) e in
         ap (λ (k : ℕ). k + 1) (c _ _ (q .is) .1 ∙ ap (size false) same)
+
     by : (u : Bool) → ltb i 65536 ≡ u → (v : Bool) → ltb (t .records + 1) 65536 ≡ v
         → ConditionSizes text (noted sizes i (t .records + 1))
     by true u true v =

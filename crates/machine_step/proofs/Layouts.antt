@@ -8,11 +8,12 @@ use lib.Signed.{mag}
 use mir.Syntax.{w32}
 use mir.Val.{toZ, ofZ, hbits}
 use Rattle.word.proofs.Laws.{read-back}
-use Rattle.machine_step.specs.Steps.{index-of, Lent, Named, form, memory-of}
+use Rattle.machine_cells.specs.Slots.{index-of}
+use Rattle.machine_step.specs.Steps.{Lent, Named, form, memory-of}
 use Rattle.machine_step.specs.declared.Machine.{Machine}
-use Rattle.machine_step.specs.declared.Limits.{Limits}
-use Rattle.machine_step.specs.declared.Layout.{Layout}
-use Rattle.machine_step.specs.declared.Layout.the-variants.{Upward, Downward}
+use Rattle.machine_cells.specs.declared.Limits.{Limits}
+use Rattle.machine_cells.specs.declared.Layout.{Layout}
+use Rattle.machine_cells.specs.declared.Layout.the-variants.{Upward, Downward}
 use Rattle.machine_step.proofs.Doing.{Place}
 
 peeks : (l : Layout) (D i : ℕ) (store lent : List ℤ)

@@ -18,16 +18,11 @@ use Rattle.machine.specs.Memories.{Assembly, assembly, machine-cells}
 use Rattle.machine_step.specs.Code.{Stepped, step-of, does}
 use Rattle.machine_step.specs.declared.Machine.{Machine}
 use Rattle.machine_step.specs.declared.Step.{Step}
-use Rattle.machine_step.specs.declared.Limits.{Limits}
-use Rattle.machine_step.specs.declared.Layout.{Layout}
-use Rattle.machine_step.specs.declared.Layout.the-variants.{Upward, Downward}
+use Rattle.machine_cells.specs.declared.Limits.{Limits}
+use Rattle.machine_cells.specs.declared.Layout.{Layout}
+use Rattle.machine_cells.specs.declared.Layout.the-variants.{Upward, Downward}
 
 -- ---- The two layouts
-
--- The index of stack slot i in the slice that is lent
-abbrev pub index-of : Layout → ℕ → ℕ → ℕ
-index-of Upward D i = i
-index-of Downward D i = D - 1 - i
 
 -- The memory, what its records name, and its form
 abbrev pub Lent : Layout → Type 0

@@ -8,8 +8,9 @@ use lib.ListN.{getD}
 use mir.Syntax.{w32}
 use Rattle.word.proofs.Laws.{read-back}
 use Rattle.record.specs.declared.Address.{Address}
-use Rattle.machine_step.specs.Steps.{index-of, downward}
-use Rattle.machine_step.specs.declared.Layout.{Layout}
+use Rattle.machine_cells.specs.Slots.{index-of}
+use Rattle.machine_step.specs.Steps.{downward}
+use Rattle.machine_cells.specs.declared.Layout.{Layout}
 use Rattle.machine_step.proofs.Doing.{Place, store-stops, store-saved}
 use Rattle.machine_step.proofs.Layouts.{place}
 use Rattle.machine_step.proofs.Machine.store_at.Statement.{statement}

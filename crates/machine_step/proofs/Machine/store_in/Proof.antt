@@ -9,8 +9,9 @@ use mir.Syntax.{w32}
 use Rattle.word.proofs.Laws.{read-back}
 use Rattle.record.specs.declared.Variable.{Variable}
 use Rattle.machine.specs.Memories.{Assembly}
-use Rattle.machine_step.specs.Steps.{index-of, upward, assembly-of}
-use Rattle.machine_step.specs.declared.Layout.{Layout}
+use Rattle.machine_cells.specs.Slots.{index-of}
+use Rattle.machine_step.specs.Steps.{upward, assembly-of}
+use Rattle.machine_cells.specs.declared.Layout.{Layout}
 use Rattle.machine_step.proofs.Doing.{Place, store-stops, store-saved}
 use Rattle.machine_step.proofs.Layouts.{place}
 use Rattle.machine_step.proofs.Machine.store_in.Statement.{statement}

@@ -4,8 +4,8 @@ use Prim.Native.Nat.{ℕ}
 use borrow.Author.Needs.{needs}
 use lib.IntN.{pos}
 use lib.ListN.{getD}
-use Rattle.machine_step.proofs.Limits.peek.Statement.{statement}
-use Rattle.machine_step.proofs.Limits.peek.Tie as tie
+use Rattle.machine_cells.proofs.Limits.peek.Statement.{statement}
+use Rattle.machine_cells.proofs.Limits.peek.Tie as tie
 
 peeked : tie.Need-returns
 peeked c =

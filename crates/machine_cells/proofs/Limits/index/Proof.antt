@@ -2,10 +2,10 @@
 use mathlib.Core.Path.{sym, ap}
 use native.Mathlib.Omega.{arith}
 use borrow.Author.Needs.{needs}
-use Rattle.machine_step.specs.Steps.{index-of}
-use Rattle.machine_step.specs.declared.Layout.{Layout}
-use Rattle.machine_step.proofs.Limits.index.Statement.{statement}
-use Rattle.machine_step.proofs.Limits.index.Tie as tie
+use Rattle.machine_cells.specs.Slots.{index-of}
+use Rattle.machine_cells.specs.declared.Layout.{Layout}
+use Rattle.machine_cells.proofs.Limits.index.Statement.{statement}
+use Rattle.machine_cells.proofs.Limits.index.Tie as tie
 
 downward : tie.Need-returns-2
 downward c =
