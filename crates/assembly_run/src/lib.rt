@@ -6,7 +6,7 @@ use base::Run;
 use machine_step::Halted;
 use machine_step::Machine;
 use machine_step::Step;
-use record::Kind;
+use record_test::Kind;
 ghost use mathlib.Core.Path.{_≡_};
 ghost use Prim.Native.Nat.{_≤_};
 ghost use lib.ListN.{length};
@@ -23,7 +23,7 @@ pub fn test(code: &[u8], store: &[i32], stack: &[i32]) -> Count
         ≡ and-then (assembly-tests (now (code .entry)) (assembly-of (now (store .entry)) (now (stack .entry))))
         (λ P. gives (length P)) ⌝ }
 {
-    if !record::is_whole(code) {
+    if !record_test::is_whole(code) {
         return Count::decline(9, 0);
     }
     if store.len() != Machine::VARIABLES {

@@ -12,9 +12,9 @@ use Rattle.base.proofs.Settled.{both, settled}
 use Rattle.record.specs.Records.{variable}
 use Rattle.record.specs.Bytes.{machine-kind, over, record-count}
 use Rattle.record.specs.Claims.{NameFits}
-use Rattle.record.specs.Code.{kind-of, assembly-numbers, machine-numbers}
+use Rattle.record_test.specs.Code.{kind-of, assembly-numbers, machine-numbers}
 use Rattle.record.specs.declared.Address.{Address}
-use Rattle.record.proofs.Testing.{assembly-told, machine-told}
+use Rattle.record_test.proofs.Testing.{assembly-told, machine-told}
 use Rattle.compile.specs.Calls.{go-back}
 use Rattle.compile.specs.Table.{variable-at}
 use Rattle.compile_translation.specs.Standing.{Stands, Holds, Renamed, Renames}

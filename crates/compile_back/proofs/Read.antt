@@ -23,8 +23,8 @@ use Rattle.record.specs.Records.{Record, LOAD, ADD, STORE}
 use Rattle.record.specs.Bytes.{Kind, first-byte, operand, record-bytes, code-bytes}
 use Rattle.record.specs.Bytes.{name-of, option-map, is-zero, record-of, record-at}
 use Rattle.record.specs.Claims.{NameFits, RecordFits, CodeFits}
-use Rattle.record.specs.Code.{is-some, numbered}
-use Rattle.record.proofs.ByNumbers.{below-first, from-first, rest-tested}
+use Rattle.record_test.specs.Code.{is-some, numbered}
+use Rattle.record_test.proofs.ByNumbers.{below-first, from-first, rest-tested}
 use Rattle.compile.proofs.Entries.{none-some}
 
 module _ {Name : Type 0} (k : Kind Name) (numbered-back : (u : ℕ) → k .number (k .name u) ≡ u) where

@@ -15,10 +15,10 @@ use Rattle.base.specs.declared.Count.the-variants.{Refused, Gives}
 use Rattle.base.proofs.Settled.{unless-passed, needed, both}
 use Rattle.record.specs.Records.{MachineCode}
 use Rattle.record.specs.Bytes.{machine-kind, code-bytes, over, record-count, whole-records, records-of}
-use Rattle.record.specs.Code.{kind-of, machine-numbers, Tested}
-use Rattle.record.specs.declared.Kind.{Kind}
+use Rattle.record_test.specs.Code.{kind-of, machine-numbers, Tested}
+use Rattle.record_test.specs.declared.Kind.{Kind}
 use Rattle.record.proofs.Tested.{records-length, records-at}
-use Rattle.record.proofs.Testing.{tested-told, machine-told}
+use Rattle.record_test.proofs.Testing.{tested-told, machine-told}
 use Rattle.compile.specs.Calls.{go-back-tests}
 use Rattle.compile.specs.Table.{named-in, is-table}
 use Rattle.compile_table.specs.Tested.{tested}

@@ -4,8 +4,8 @@ use compile::TABLE_BYTES;
 use compile_table::Named;
 use compile_translation::Direction;
 use compile_translation::rename_records;
-use record::Kind;
 use record::RECORD_BYTES;
+use record_test::Kind;
 ghost use mathlib.Core.Path.{_≡_};
 ghost use Prim.Native.Nat.{ℕ, _<_, _≤_};
 ghost use lib.ListN.{length, getD, replicate};
@@ -53,7 +53,7 @@ pub fn test(code: &[u8], table: &[u8], out: &[u8]) -> Count
         ≡ and-then (Calls.go-back-tests (now (code .entry)) (now (table .entry)) (now (out .entry)))
         (λ P. gives (Table.named-in (now (table .entry)))) ⌝ }
 {
-    if !record::is_whole(code) {
+    if !record_test::is_whole(code) {
         return Count::decline(9, 0);
     }
     if table.len() != TABLE_BYTES {

@@ -1,7 +1,7 @@
 -- What is looked up in a cache of sizes is right, and the cache stays right when the size of a condition is noted that was
 -- measured with some nesting left: what is read there does not depend on that (text, Same).
-use mathlib.Core.Path.{_≡_, refl, sym, subst, ap, _∙_}
-use mathlib.Core.Bool.{Bool, true, false, _&&_}
+use mathlib.Core.Path.{_≡_, refl, sym, ap, _∙_}
+use mathlib.Core.Bool.{Bool, true, false}
 use mathlib.Core.List.{List}
 use Prim.Native.Nat.{ℕ, _+_, _*_, _/_, _%_, _<_, _≤_}
 use native.Mathlib.Omega.{arith}
@@ -12,7 +12,6 @@ use Rattle.base.specs.Acts.{if_then_else_}
 use Rattle.text.specs.Encoding.{Bytes}
 use Rattle.text.specs.Reading.{condition}
 use Rattle.text.proofs.Same.{same-condition}
-use Rattle.text_shape.specs.Caches.{Right}
 use Rattle.text_shape.proofs.Caching.{stays-set}
 use Rattle.compile_sizes.specs.Parts.{Countable, Counts, Sized}
 use Rattle.compile_sizes.specs.Cache.{looked-up, noted, ConditionSizes}

@@ -10,8 +10,8 @@ use Rattle.record.specs.Records.{Record, LOADI, LOAD, ADD, STORE, JMP, JMPLESS,
 use Rattle.record.specs.Bytes as Bytes
 use Rattle.record.specs.Bytes.{first-byte, operand, record-bytes, code-bytes, over}
 use Rattle.record.specs.Claims.{NameFits, RecordFits, CodeFits}
-use Rattle.record.specs.Code.{kind-of, Told}
-use Rattle.record.specs.declared.Kind.{Kind}
+use Rattle.record_test.specs.Code.{kind-of, Told}
+use Rattle.record_test.specs.declared.Kind.{Kind}
 use Rattle.compile_translation.specs.Standing.{Stands, Renamed}
 
 -- ---- A kind and its numbers

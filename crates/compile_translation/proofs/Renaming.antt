@@ -15,8 +15,8 @@ use Rattle.word.specs.Numbers.{bits-of, bytes-of}
 use Rattle.record.specs.Records.{Record, LOADI, LOAD, ADD, STORE, JMP, JMPLESS, JMPGE, rename}
 use Rattle.record.specs.Bytes.{first-byte, operand, record-bytes}
 use Rattle.record.specs.Claims.{RecordFits}
-use Rattle.record.specs.Code.{kind-of}
-use Rattle.record.specs.declared.Kind.{Kind}
+use Rattle.record_test.specs.Code.{kind-of}
+use Rattle.record_test.specs.declared.Kind.{Kind}
 use Rattle.compile_translation.specs.Standing.{Renames, Renamable}
 use Rattle.compile_translation.specs.Steps.{has-name, renamed-front}
 

@@ -11,8 +11,8 @@ use borrow.Rule.Slice.PartMut.{midOf, putMid}
 use Rattle.base.proofs.Rests.{rest-is, back-is}
 use Rattle.record.specs.Records.{Record, ADD, rename}
 use Rattle.record.specs.Bytes.{record-bytes, code-bytes, over}
-use Rattle.record.specs.Code.{kind-of}
-use Rattle.record.specs.declared.Kind.{Kind}
+use Rattle.record_test.specs.Code.{kind-of}
+use Rattle.record_test.specs.declared.Kind.{Kind}
 use Rattle.record.proofs.Bytes.{five-bytes, code-bytes-append}
 use Rattle.compile_translation.specs.Standing.{Stands, Renames, Renamable}
 use Rattle.compile_translation.specs.Steps.{renamed-front}

@@ -9,9 +9,9 @@ use borrow.Author.Tests.{leb-true}
 use Rattle.record.specs.Records.{AssemblyCode, address}
 use Rattle.record.specs.Bytes.{assembly-kind}
 use Rattle.record.specs.Claims.{NameFits}
-use Rattle.record.specs.Code.{kind-of, assembly-numbers, machine-numbers}
+use Rattle.record_test.specs.Code.{kind-of, assembly-numbers, machine-numbers}
 use Rattle.record.specs.declared.Variable.{Variable}
-use Rattle.record.proofs.Testing.{assembly-told, machine-told}
+use Rattle.record_test.proofs.Testing.{assembly-told, machine-told}
 use Rattle.compile.specs.Table.{vars, addr-of}
 use Rattle.compile.proofs.Entries.{length-entries, table-at}
 use Rattle.compile_translation.specs.Standing.{Stands, Holds, Renamed, Renames}

@@ -1,6 +1,6 @@
 -- The kinds of records that a way of renaming leads from and to.
-use Rattle.record.specs.Code.{assembly-numbers, machine-numbers}
-use Rattle.record.specs.declared.Kind.{Kind}
+use Rattle.record_test.specs.Code.{assembly-numbers, machine-numbers}
+use Rattle.record_test.specs.declared.Kind.{Kind}
 use Rattle.compile_translation.specs.declared.Direction.{Direction}
 use Rattle.compile_translation.specs.declared.Direction.the-variants.{ToMachine, ToAssembly}
 

@@ -8,8 +8,8 @@ use Rattle.record.specs.Records.{Record, rename}
 use Rattle.record.specs.Bytes as Bytes
 use Rattle.record.specs.Bytes.{code-bytes, over}
 use Rattle.record.specs.Claims.{CodeFits}
-use Rattle.record.specs.Code.{kind-of}
-use Rattle.record.specs.declared.Kind.{Kind}
+use Rattle.record_test.specs.Code.{kind-of}
+use Rattle.record_test.specs.declared.Kind.{Kind}
 use Rattle.compile_translation.specs.Steps.{has-name}
 
 -- `count` records P of a kind, written over the start of a buffer that held `lent`

@@ -10,7 +10,7 @@ ghost use mathlib.Core.List.{List};
 ghost use lib.ListN.{length, getD, replicate};
 ghost use Rattle.record.specs.Records.{AssemblyCode};
 ghost use Rattle.record.specs.Bytes.{assembly-kind};
-ghost use Rattle.record.specs.Code.{kind-of};
+ghost use Rattle.record_test.specs.Code.{kind-of};
 ghost use Rattle.compile_translation.specs.Directions.{from-kind, to-kind};
 ghost use Rattle.compile_translation.specs.Standing.{Stands, Holds, Renamed, Renames, Renamable};
 ghost use Rattle.compile_translation.specs.Steps as Steps;

@@ -20,7 +20,7 @@ use Rattle.base.proofs.Settled.{unless-passed, needed, both, settled, declined}
 use Rattle.record.specs.Records.{AssemblyCode, MachineCode}
 use Rattle.record.specs.Bytes.{Kind, assembly-kind, machine-kind}
 use Rattle.record.specs.Bytes.{whole-records, record-count, records-from, records-of}
-use Rattle.record.proofs.Testing.{few-records}
+use Rattle.record.proofs.Tested.{few-records}
 use Rattle.record.proofs.Tested.{records-length}
 use Rattle.machine.specs.Memories.{Assembly}
 use Rattle.machine.specs.Calls.{assembly-tests, assembly-run, run-assembly}

@@ -6,7 +6,7 @@ use base::Run;
 use machine_step::Halted;
 use machine_step::Machine;
 use machine_step::Step;
-use record::Kind;
+use record_test::Kind;
 ghost use mathlib.Core.Path.{_≡_};
 ghost use mathlib.Core.Bool.{_&&_};
 ghost use Prim.Native.Nat.{_+_, _≤_};
@@ -37,7 +37,7 @@ pub fn test(code: &[u8], memory: &[i32], depth: u64, cells: u64) -> Count
     ensures { λ r. ⌜ count-answer r
         ≡ and-then (machine-tests (now (code .entry)) (now (memory .entry)) depth cells) (λ P. gives (length P)) ⌝ }
 {
-    if !record::is_whole(code) {
+    if !record_test::is_whole(code) {
         return Count::decline(9, 0);
     }
     let last = code.len() / record::RECORD_BYTES;

@@ -3,8 +3,6 @@ pub mod Bytes
 pub mod Reading
 pub mod Tested
 pub mod Written
-pub mod ByNumbers
-pub mod Testing
 pub mod Decoding
 pub mod Buffer
 pub mod Filling

@@ -1,17 +1,20 @@
 -- What the test of code says: where it gives records, they are those at the indices, one for each; where it refuses,
 -- it names 10 and the first index that holds no record. By going through the records from the first on.
 use mathlib.Core.Path.{_≡_, refl, sym, ap, ap₂, _∙_}
+use mathlib.Core.Bool.{Bool, true, false, _&&_}
 use mathlib.Core.List.{List, [], _∷_}
 use mathlib.Core.Logic.{⊎-elim}
 use mathlib.Core.Option.{Option, none, some}
-use Prim.Native.Nat.{ℕ, zero, suc, _+_, _<_, _≤_}
+use Prim.Native.Nat.{ℕ, zero, suc, _+_, _%_, _<_, _≤_}
 use native.Mathlib.Nat.{add-zero, add-suc, suc-add, eq-or-lt-of-le}
 use native.Mathlib.Omega.{arith}
+use lib.Dec.{eqb, leb}
 use lib.ListN.{length, getElem?}
+use borrow.Author.Tests.{leb-true}
 use Rattle.base.specs.Answers.{Answer, gives, refused, and-then}
 use Rattle.base.proofs.Settled.{not-both}
 use Rattle.record.specs.Records.{Record}
-use Rattle.record.specs.Bytes.{Kind, record-at, in-front, records-from}
+use Rattle.record.specs.Bytes.{Kind, record-count, whole-records, record-at, in-front, records-from}
 
 -- The first of the records given, and those after it
 record Taken {Name : Type 0} (first : Option (Record Name)) (rest : Answer (List (Record Name)))
@@ -111,3 +114,11 @@ module _ {Name : Type 0} (k : Kind Name) (code : List ℕ) where
       by (some r) at-i q behind =
           let found = behind (refused-behind i r (records-from k code (suc i) count) q) in
           (found .0, omega arith, omega arith, found .3, filled i place at-i (found .4))
+
+-- Code of whole records has at most 4,096.
+pub few-records : (code : List ℕ) → whole-records code ≡ true → record-count code ≤ 4096
+few-records code e = by (eqb (length code % 5) 0) e
+  where
+    by : (b : Bool) → (b && leb (record-count code) 4096) ≡ true → record-count code ≤ 4096
+    by true e = leb-true (record-count code) 4096 e
+    by false e = absurd (let no : _≡_ {A = ℕ} 0 1 = cc in omega arith)

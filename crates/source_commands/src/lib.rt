@@ -7,7 +7,7 @@ ghost use lib.ListN.{length, getD};
 ghost use Rattle.base.specs.Acts.{ended, then′};
 ghost use Rattle.word.specs.Sums.{sum32};
 ghost use Rattle.text.specs.Reading.{command};
-ghost use Rattle.text_shape.specs.Caches.{PartEnds};
+ghost use Rattle.text_ends.specs.Ends.{PartEnds};
 ghost use Rattle.source.specs.Rules.{spent, state, tick, assign, exec};
 ghost use Rattle.source_values.specs.Placed.{Read, placed, reaching};
 ghost use Rattle.source_commands.specs.Code.{went};
@@ -17,11 +17,11 @@ use source_values::Value;
 use source_values::evaluate;
 use source_values::guard;
 use source_values::test;
+use text_ends::part_end;
 use text_shape::ASSIGN;
 use text_shape::IF;
 use text_shape::SEQUENCE;
 use text_shape::SKIP;
-use text_shape::part_end;
 
 // What a command comes to: the run goes on after it, or has ended.
 pub enum Progress {

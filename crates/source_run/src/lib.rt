@@ -9,7 +9,7 @@ ghost use Rattle.base.specs.Code.{end-of, run-answer};
 ghost use Rattle.text.specs.Syntax.{Command};
 ghost use Rattle.text.specs.Sizes.{sizes};
 ghost use Rattle.text.specs.Code.{sizes-answer};
-ghost use Rattle.text_shape.specs.Caches.{PartEnds, first};
+ghost use Rattle.text_ends.specs.Ends.{PartEnds, first};
 ghost use Rattle.source.specs.Rules as Rules;
 ghost use Rattle.source.specs.Calls.{source-tests, run-source};
 ghost use Rattle.source_values.specs.Code.{early};
@@ -21,9 +21,9 @@ use source_commands::Progress;
 use source_commands::execute;
 use source_values::Early;
 use text::Reading;
-use text_shape::SHORT_TEXT;
-use text_shape::first_loop;
-use text_shape::note_ends;
+use text_ends::SHORT_TEXT;
+use text_ends::first_loop;
+use text_ends::note_ends;
 
 // The call's tests, in order: 6, 1 to 5, 8. Where they are passed it gives the text's sizes.
 pub fn test(text: &[u8], store: &[i32]) -> Reading

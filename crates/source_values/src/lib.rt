@@ -12,10 +12,11 @@ ghost use Rattle.word.specs.Sums.{sum32};
 ghost use Rattle.text.specs.Syntax.{Constant, Variable, Bc};
 ghost use Rattle.text.specs.Reading.{expression, condition};
 ghost use Rattle.text_shape.specs.Shape.{constant-width, constant-at};
-ghost use Rattle.text_shape.specs.Caches.{PartEnds};
+ghost use Rattle.text_ends.specs.Ends.{PartEnds};
 ghost use Rattle.source.specs.Rules.{spent, state, tick, add, value, truth};
 ghost use Rattle.source_values.specs.Placed.{Read, placed, reaching, inverse};
 ghost use Rattle.source_values.specs.Code.{valued, tested};
+use text_ends::part_end;
 use text_shape::AND;
 use text_shape::BC;
 use text_shape::CONSTANT;
@@ -23,7 +24,6 @@ use text_shape::LESS;
 use text_shape::NOT;
 use text_shape::VARIABLE;
 use text_shape::constant_at;
-use text_shape::part_end;
 use word::Sum;
 
 // Why a run ended that is not done.

@@ -1,4 +1,1 @@
-pub mod Passing
 pub mod Caching
-pub mod Noting
-pub mod Finding

@@ -8,9 +8,9 @@ use borrow.Author.Needs.{needs}
 use borrow.Author.Tests.{not-true, not-false, eq-eqb, ne-eqb, le-leb, lt-leb}
 use Rattle.base.specs.Answers.{gives, and-then}
 use Rattle.record.specs.Bytes.{assembly-kind, record-count}
-use Rattle.record.specs.Code.{kind-of, assembly-numbers, Tested}
-use Rattle.record.specs.declared.Kind.{Kind}
-use Rattle.record.proofs.Testing.{tested-told, assembly-told}
+use Rattle.record_test.specs.Code.{kind-of, assembly-numbers, Tested}
+use Rattle.record_test.specs.declared.Kind.{Kind}
+use Rattle.record_test.proofs.Testing.{tested-told, assembly-told}
 use Rattle.record.proofs.Tested.{records-length}
 use Rattle.machine.proofs.Calls.{assembly-tested}
 use Rattle.machine_step.specs.Steps.{assembly-of}

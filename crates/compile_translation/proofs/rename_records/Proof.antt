@@ -7,7 +7,7 @@ use native.Mathlib.Omega.{arith}
 use lib.ListN.{length}
 use borrow.Author.Needs.{needs}
 use Rattle.record.specs.Records.{Record}
-use Rattle.record.specs.Code.{kind-of}
+use Rattle.record_test.specs.Code.{kind-of}
 use Rattle.compile_translation.specs.Directions.{from-kind, to-kind}
 use Rattle.compile_translation.specs.Standing.{Stands}
 use Rattle.compile_translation.proofs.Rows.{Rows, rows-start, rows-front, rows-next, rows-end}

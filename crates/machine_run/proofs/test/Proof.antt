@@ -8,9 +8,9 @@ use borrow.Author.Needs.{needs}
 use borrow.Author.Tests.{not-true, not-false}
 use Rattle.base.specs.Answers.{gives, and-then}
 use Rattle.record.specs.Bytes.{machine-kind, record-count}
-use Rattle.record.specs.Code.{kind-of, machine-numbers, Tested}
-use Rattle.record.specs.declared.Kind.{Kind}
-use Rattle.record.proofs.Testing.{tested-told, machine-told}
+use Rattle.record_test.specs.Code.{kind-of, machine-numbers, Tested}
+use Rattle.record_test.specs.declared.Kind.{Kind}
+use Rattle.record_test.proofs.Testing.{tested-told, machine-told}
 use Rattle.record.proofs.Tested.{records-length}
 use Rattle.machine.proofs.Calls.{machine-tested}
 use Rattle.machine_run.proofs.test.Statement.{statement}

@@ -11,8 +11,8 @@ use Rattle.text.specs.Syntax.{IF_THEN_ELSE_, WHILE_DO_}
 use Rattle.text.specs.Reading.{condition, command}
 use Rattle.text.proofs.Opened.{Two, Three, command-opened, skip-at, sequence-at, choice-at as parts-of-choice, while-at}
 use Rattle.text.proofs.Opened.{last-command}
-use Rattle.text_shape.proofs.Passing.{command-end, command-ends}
-use Rattle.text_shape.proofs.part_end.Reads as part-end-reads
+use Rattle.text_ends.proofs.Passing.{command-end, command-ends}
+use Rattle.text_ends.proofs.part_end.Reads as part-end-reads
 use Rattle.source.specs.Rules.{Store, Outcomes, state, tick}
 use Rattle.source_values.specs.Placed.{Reached, _upto_, reaching}
 use Rattle.source_values.proofs.Steps.{truth-told, was-read}

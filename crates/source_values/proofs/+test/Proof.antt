@@ -8,8 +8,8 @@ use borrow.Author.Needs.{needs}
 use Rattle.base.proofs.Cycles.{Member, twice, at, below, State, here}
 use Rattle.base.specs.Acts.{ok}
 use Rattle.text.proofs.Opened.{condition-opened, bc-at, not-at, and-at, last-condition}
-use Rattle.text_shape.proofs.Passing.{condition-end, condition-ends}
-use Rattle.text_shape.proofs.part_end.Reads as part-end-reads
+use Rattle.text_ends.proofs.Passing.{condition-end, condition-ends}
+use Rattle.text_ends.proofs.part_end.Reads as part-end-reads
 use Rattle.source.specs.Rules.{state}
 use Rattle.source_values.specs.Placed.{_upto_, inverse}
 use Rattle.source_values.proofs.Steps.{truth-told, was-read, placed-is}

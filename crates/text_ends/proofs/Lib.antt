@@ -1,0 +1,4 @@
+pub mod Passing
+pub mod Caching
+pub mod Noting
+pub mod Finding
