@@ -19,7 +19,8 @@ known-size-spec =
     let some : tie.Then1 = search in
     let s : tie.Start = search in (
       λ b n read.
-          let right = known (s .args .text .now) (s .pre .1) (s .args .at) (s .args .nest) (k .recall .ensures) (some .if1 .taken) b n read in
+          let right = known (s .args .text .now) (s .pre .1) (s .args .at) (s .args .nest) (k .recall .ensures)
+          (some .if1 .taken) b n read in
           omega (arith, right),
       s .pre .1,
     ))
