@@ -14,7 +14,7 @@ use Rattle.text.specs.Reading.{condition}
 use Rattle.text.proofs.Same.{same-condition}
 use Rattle.text_shape.proofs.Caching.{stays-set}
 use Rattle.compile_sizes.specs.Parts.{Countable, Counts, Sized}
-use Rattle.compile_sizes.specs.Cache.{looked-up, noted, ConditionSizes}
+use Rattle.compile_sizes.specs.Cache.{looked-up, size-noted, ConditionSizes}
 use Rattle.compile_sizes.specs.declared.PartSize.{PartSize}
 use Rattle.compile_sizes.proofs.Counting.{size}
 
@@ -32,16 +32,16 @@ module _ (cache : List ℕ) (i : ℕ) {entry : ℕ} (e : entry ≡ getD cache (i
 -- ---- What is noted, by the room for it
 
 module _ (cache : List ℕ) (i value : ℕ) where
-  pub noted-in : i < 65536 → value < 65536 → set cache (i % 64) (i * 65536 + value) ≡ noted cache i value
-  unfolding noted
+  pub noted-in : i < 65536 → value < 65536 → set cache (i % 64) (i * 65536 + value) ≡ size-noted cache i value
+  unfolding size-noted
   noted-in h l = simp (lt-ltb i 65536 h, lt-ltb value 65536 l)
 
-  pub noted-large : i < 65536 → 65536 ≤ value → cache ≡ noted cache i value
-  unfolding noted
+  pub noted-large : i < 65536 → 65536 ≤ value → cache ≡ size-noted cache i value
+  unfolding size-noted
   noted-large h l = simp (lt-ltb i 65536 h, le-ltb value 65536 l)
 
-  pub noted-far : 65536 ≤ i → cache ≡ noted cache i value
-  unfolding noted
+  pub noted-far : 65536 ≤ i → cache ≡ size-noted cache i value
+  unfolding size-noted
   noted-far h = simp (le-ltb i 65536 h)
 
 -- ---- It is right
@@ -65,7 +65,7 @@ known text {sizes} right i nest e some = of-slot text right i nest (eqb (getD si
 pub stays-right : (text : List ℕ) (nest i : ℕ) {sizes : List ℕ} {t : PartSize} → Bytes text → ConditionSizes text sizes
     → Countable (size false) (condition text nest i)
     → Counts (size false) (condition text nest i) t
-    → ConditionSizes text (noted sizes i (t .records + 1))
+    → ConditionSizes text (size-noted sizes i (t .records + 1))
 stays-right text nest i {sizes} {t} small right q c = by (ltb i 65536) refl (ltb (t .records + 1) 65536) refl
   where
     sized : (other : ℕ) → Sized (λ b. size false b + 1) (condition text other i) (t .records + 1)
@@ -74,7 +74,7 @@ stays-right text nest i {sizes} {t} small right q c = by (ltb i 65536) refl (ltb
         ap (λ (k : ℕ). k + 1) (c _ _ (q .is) .1 ∙ ap (size false) same)
 
     by : (u : Bool) → ltb i 65536 ≡ u → (v : Bool) → ltb (t .records + 1) 65536 ≡ v
-        → ConditionSizes text (noted sizes i (t .records + 1))
+        → ConditionSizes text (size-noted sizes i (t .records + 1))
     by true u true v =
         let value = t .records + 1 in
         let position : (i * 65536 + value) / 65536 ≡ i = omega (arith, ltb-true value 65536 v) in

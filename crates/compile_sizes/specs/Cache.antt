@@ -19,8 +19,8 @@ looked-up cache i =
     if eqb (entry / 65536) i then entry % 65536 else 0
 
 -- The cache with a value in a position's slot, where both have 16 bits
-unfoldable pub noted : List ℕ → ℕ → ℕ → List ℕ
-noted cache i value =
+unfoldable pub size-noted : List ℕ → ℕ → ℕ → List ℕ
+size-noted cache i value =
     if ltb i 65536 && ltb value 65536 then set cache (i % 64) (i * 65536 + value) else cache
 
 -- What stands in a slot is right for every condition that can be read at its position

@@ -12,7 +12,7 @@ ghost use Rattle.text.specs.Sizes.{expression-records, condition-records};
 ghost use Rattle.text_conditions.specs.Code.{expression-parts};
 ghost use Rattle.compile_sizes.specs.Parts.{Countable, Counts, Sized};
 ghost use Rattle.compile_sizes.specs.Nots.{Behind};
-ghost use Rattle.compile_sizes.specs.Cache.{looked-up, noted, ConditionSizes};
+ghost use Rattle.compile_sizes.specs.Cache.{looked-up, size-noted, ConditionSizes};
 use text_shape::AND;
 use text_shape::BC;
 use text_shape::CONSTANT;
@@ -38,7 +38,7 @@ fn wide(entry: u32) -> usize
 }
 
 // What a cache knows of a position, 0 for nothing.
-fn recall(sizes: &[u32; SLOTS], at: usize) -> usize
+fn look_up(sizes: &[u32; SLOTS], at: usize) -> usize
     ensures { λ r. ⌜ r ≡ looked-up (now (sizes .entry)) at ⌝ }
 {
     let entry = wide(sizes[at % SLOTS]);
@@ -49,8 +49,8 @@ fn recall(sizes: &[u32; SLOTS], at: usize) -> usize
 }
 
 // Notes a value of a position in the position's slot, whatever stood there.
-fn remember(sizes: &mut [u32; SLOTS], at: usize, value: usize)
-    ensures { λ _. ⌜ now (sizes .exit) ≡ noted (now (sizes .entry)) at value ⌝ }
+fn note_size(sizes: &mut [u32; SLOTS], at: usize, value: usize)
+    ensures { λ _. ⌜ now (sizes .exit) ≡ size-noted (now (sizes .entry)) at value ⌝ }
 {
     if at < 0x10000 {
         if value < 0x10000 {
@@ -145,7 +145,7 @@ fn both_size(text: &[u8], at: usize, nest: usize, flag: bool, sizes: &mut [u32; 
 {
     let first = condition_size(text, at + 1, nest - 1, false, sizes);
     let middle = first.next;
-    remember(sizes, at + 1, first.records + 1);
+    note_size(sizes, at + 1, first.records + 1);
     let second = condition_size(text, middle, nest - 1, flag, sizes);
     PartSize {
         next: second.next,
@@ -197,7 +197,7 @@ pub fn known_size(text: &[u8], at: usize, nest: usize, sizes: &mut [u32; SLOTS])
     ensures { λ r. ⌜ Sized (λ b. condition-records b false) (condition (now (text .entry)) nest at) r ⌝ }
     ensures { λ _. ⌜ ConditionSizes (now (text .entry)) (now (sizes .exit)) ⌝ }
 {
-    let known = recall(sizes, at);
+    let known = look_up(sizes, at);
     if known != 0 {
         return known - 1;
     }

@@ -17,7 +17,7 @@ use Rattle.compile_sizes.proofs.Caching.{stays-right}
 use Rattle.compile_sizes.proofs.Counting.{size, told, Pair, first-countable, second-countable, Both, both}
 use Rattle.compile_sizes.proofs.Nots as nots
 use Rattle.compile_sizes.proofs.past_nots.Reads as past-nots
-use Rattle.compile_sizes.proofs.remember.Reads as remember
+use Rattle.compile_sizes.proofs.note_size.Reads as note-size
 use Rattle.compile_sizes.proofs.less_size.Reads as less-size
 use Rattle.compile_sizes.proofs.value_size.Reads as value-size
 use Rattle.compile_sizes.proofs.condition_size.Reads as condition-size-reads
@@ -51,7 +51,7 @@ abbrev In-condition-size : ℕ → State condition-size lts.Claims (Type 0) → 
 In-condition-size t = here condition-size (known t) t
 
 abbrev both-known : ℕ → both-lts.Claims
-both-known t = (below condition-size t, condition-size .post, remember.Asked, remember.Learnt)
+both-known t = (below condition-size t, condition-size .post, note-size.Asked, note-size.Learnt)
 
 abbrev In-both-size : ℕ → State both-size both-lts.Claims (Type 0) → Type 0
 In-both-size t = here both-size (both-known t) t
@@ -129,7 +129,7 @@ pub +both-size+condition-size-spec : {M : Type 1} → statement M
     let s : In-both-size t both-lts.Start = search in
     text-says.condition-opened _ _ _ (s .pre .1 .1 .0 .is) .nested)
     (λ c κs.
-    let noted : In-both-size t both-lts.After-remember = search in
+    let noted : In-both-size t both-lts.After-note-size = search in
     let one : In-both-size t both-lts.After-condition-size = search in
     let bytes : In-both-size t both-lts.After-shared-slice-known = search in
     let s : In-both-size t both-lts.Start = search in
@@ -140,7 +140,7 @@ pub +both-size+condition-size-spec : {M : Type 1} → statement M
       text-says.down o (s .pre .0),
       (
         second-countable (both-sides t s) (m .0),
-        subst (ConditionSizes (s .args .text .now)) (sym (noted .remember .ensures)) right,
+        subst (ConditionSizes (s .args .text .now)) (sym (noted .note-size .ensures)) right,
       ),
     ))
     (λ c.

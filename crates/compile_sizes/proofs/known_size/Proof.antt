@@ -15,11 +15,11 @@ known-size-spec =
     (λ c. search needs)
     -- returns
     (λ c.
-    let k : tie.After-recall = search in
+    let k : tie.After-look-up = search in
     let some : tie.Then1 = search in
     let s : tie.Start = search in (
       λ b n read.
-          let right = known (s .args .text .now) (s .pre .1) (s .args .at) (s .args .nest) (k .recall .ensures)
+          let right = known (s .args .text .now) (s .pre .1) (s .args .at) (s .args .nest) (k .look-up .ensures)
           (some .if1 .taken) b n read in
           omega (arith, right),
       s .pre .1,

@@ -1,11 +1,11 @@
--- `recall` meets its contract: what stands in the position's slot, if it is of that position.
+-- `look_up` meets its contract: what stands in the position's slot, if it is of that position.
 use borrow.Author.Needs.{needs}
 use Rattle.compile_sizes.proofs.Caching.{found, missing}
-use Rattle.compile_sizes.proofs.recall.Statement.{statement}
-use Rattle.compile_sizes.proofs.recall.Tie as tie
+use Rattle.compile_sizes.proofs.look_up.Statement.{statement}
+use Rattle.compile_sizes.proofs.look_up.Tie as tie
 
-pub recall-spec : {M : Type 1} → statement M
-recall-spec =
+pub look-up-spec : {M : Type 1} → statement M
+look-up-spec =
     tie.close
     (tie.spec
     (λ c. search needs)

@@ -1,11 +1,11 @@
--- `remember` meets its contract, by the room for position and value.
+-- `note_size` meets its contract, by the room for position and value.
 use borrow.Author.Needs.{needs}
 use Rattle.compile_sizes.proofs.Caching.{noted-in, noted-large, noted-far}
-use Rattle.compile_sizes.proofs.remember.Statement.{statement}
-use Rattle.compile_sizes.proofs.remember.Tie as tie
+use Rattle.compile_sizes.proofs.note_size.Statement.{statement}
+use Rattle.compile_sizes.proofs.note_size.Tie as tie
 
-pub remember-spec : {M : Type 1} → statement M
-remember-spec =
+pub note-size-spec : {M : Type 1} → statement M
+note-size-spec =
     tie.close
     (tie.spec
     (λ c. search needs)
