@@ -54,6 +54,24 @@ enum profile_refusal_number {
     PROFILE_BAD_TABLE = 12       /* the table's nonzero entries are not 1 to n, once each */
 };
 
+/* A text is one command of at most PROFILE_TEXT_BYTES bytes. The first byte of each construct; v is a variable's byte, 0 to
+ * 63, numbers are two's complement. A constant may have either spelling, and both compile to the same record. */
+enum profile_text_byte {
+    PROFILE_SKIP = 0x00,
+    PROFILE_ASSIGN = 0x01,            /* v, expression */
+    PROFILE_SEQUENCE = 0x02,          /* command, command */
+    PROFILE_IF = 0x03,                /* condition, command, command */
+    PROFILE_WHILE = 0x04,             /* condition, command */
+    PROFILE_CONSTANT = 0x10,          /* four bytes, lowest first */
+    PROFILE_VARIABLE = 0x11,          /* v */
+    PROFILE_PLUS = 0x12,              /* expression, expression */
+    PROFILE_ONE_BYTE_CONSTANT = 0x13, /* one signed byte, -128 to 127 */
+    PROFILE_BC = 0x20,                /* 0 false, 1 true */
+    PROFILE_NOT = 0x21,               /* condition */
+    PROFILE_AND = 0x22,               /* condition, condition */
+    PROFILE_LESS = 0x23               /* expression, expression */
+};
+
 /* Reads a text. Gives its record count, D and n. Refuses 6, then 1 to 5. */
 uint64_t profile_read(const uint8_t *text, size_t text_len);
 

@@ -79,6 +79,10 @@ impl Maker<'_> {
         } else if self.random.one_in(2) {
             self.text.push(0x11);
             self.variable();
+        } else if self.random.one_in(2) {
+            self.text.push(0x13);
+            let byte = self.random.bits();
+            self.text.push(byte as u8);
         } else {
             self.text.push(0x10);
             let cell = self.random.cell();
@@ -228,7 +232,7 @@ pub fn damaged(mut text: Vec<u8>, random: &mut Random) -> Vec<u8> {
     match random.below(5) {
         0 => text[at] = random.bits() as u8,
         1 => text.truncate(at),
-        2 => text.insert(at, [0x00, 0x02, 0x12, 0x20, 0x22, 0x40][random.below(6)]),
+        2 => text.insert(at, [0x00, 0x02, 0x10, 0x12, 0x13, 0x20, 0x22, 0x40][random.below(8)]),
         3 => text.push(random.bits() as u8),
         _ => text.extend(text.clone()),
     }

@@ -1,4 +1,4 @@
-//! A simple interpreter of profiles, written from document 01 alone: reading, the source rules, compilation, both
+//! A simple interpreter of profiles, written from documents 01 and 02 alone: reading, the source rules, compilation, both
 //! executors, the way back, and the printing program. Plain rather than fast; nothing here is shared with the proved code.
 
 use std::fmt::Write;
@@ -78,6 +78,8 @@ impl Reader<'_> {
             }
             0x11 => Expression::Variable(self.operand(63)?),
             0x12 => Expression::Plus(Box::new(self.expression(nesting + 1)?), Box::new(self.expression(nesting + 1)?)),
+            // W1: the same constant as 0x10, in one signed byte
+            0x13 => Expression::Constant(self.byte()? as i8 as i32),
             _ => return self.unknown(),
         })
     }

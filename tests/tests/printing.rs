@@ -32,7 +32,7 @@ fn examples() {
             count += 1;
         }
     }
-    assert!(count >= 14);
+    assert!(count >= 15);
 }
 
 #[test]

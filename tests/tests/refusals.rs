@@ -37,6 +37,19 @@ fn order_at_a_construct() {
     declines(&[0x01, 0x00, 0x10, 1, 2, 3], 1, 6);
 }
 
+/// A one-byte constant (document 02, W1) declines as any operand does, and begins no condition and no command.
+#[test]
+fn one_byte_constants() {
+    declines(&[0x01, 0x00, 0x13], 1, 3);
+    declines(&[0x01, 0x00, 0x12, 0x13, 0x80, 0x13], 1, 6);
+    declines(&[0x01, 0x00, 0x13, 0x80, 0x00], 5, 4);
+    declines(&[0x04, 0x13, 0x01, 0x00], 2, 1);
+    declines(&[0x13], 2, 0);
+    let mut deep = [vec![0x01, 0x00], vec![0x12; 63]].concat();
+    deep.extend([0x13, 0x00]);
+    declines(&deep, 4, 65);
+}
+
 #[test]
 fn every_single_byte() {
     for byte in 0..=255u8 {

@@ -1,11 +1,11 @@
 -- The records of profile C, the addresses of profile I, the bytes of profile B, and where the calls decline, by
--- computation (Cases: Listing, Addresses, BytesOfB, AssembleDeclines, CompileDeclines, GoBackDeclines).
+-- computation (Cases: Listing, ShortListing, Addresses, BytesOfB, AssembleDeclines, CompileDeclines, GoBackDeclines).
 use mathlib.Core.Path.{refl}
 use Rattle.base.specs.Acts.{then′, give}
 use Rattle.base.specs.Answers.{and-then, settle}
-use Rattle.word.specs.Numbers.{number-of, number-at, bits-of, bytes-of}
+use Rattle.word.specs.Numbers.{number-of, number-at, bits-of, bytes-of, byte-number}
 use Rattle.text.specs.Reading.{expression-byte, condition-byte, command-byte, decline, there, due, pass, operand}
-use Rattle.text.specs.Reading.{four, number, expression-of, expression, condition-of, condition, command-of}
+use Rattle.text.specs.Reading.{number-due, number, expression-of, expression, condition-of, condition, command-of}
 use Rattle.text.specs.Reading.{command, all-read, read-text}
 use Rattle.text.specs.Sizes.{expression-records, condition-records, records, expression-depth, condition-depth}
 use Rattle.text.specs.Sizes.{depth, expression-names, condition-names, names, how-many}
@@ -16,26 +16,33 @@ use Rattle.record.specs.Bytes.{is-zero, record-of, in-front, records-from}
 use Rattle.compile.specs.Compilation.{acomp, bcomp, ccomp}
 use Rattle.compile.specs.Table.{member, once, vars, addr-of, entries, times, once-each, variable-at}
 use Rattle.compile.specs.Calls.{assemble-tests, assemble, compile-tests, compile, go-back-tests, go-back}
-use Rattle.compile.specs.Cases.{Listing, Addresses, BytesOfB, AssembleDeclines, CompileDeclines}
-use Rattle.compile.specs.Cases.{GoBackDeclines}
+use Rattle.compile.specs.Cases.{Listing, ShortListing, Addresses, BytesOfB, AssembleDeclines}
+use Rattle.compile.specs.Cases.{CompileDeclines, GoBackDeclines}
 
 pub listing : Listing
 unfolding C·text then′ give and-then number-of number-at
-    expression-byte condition-byte command-byte decline there due pass operand four number
+    expression-byte condition-byte command-byte decline there due pass operand number-due number
     expression-of expression condition-of condition command-of command all-read read-text
     ccomp acomp bcomp
 listing = refl
 
+pub short-listing : ShortListing
+unfolding C·text then′ give and-then number-of number-at byte-number
+    expression-byte condition-byte command-byte decline there due pass operand number-due number
+    expression-of expression condition-of condition command-of command all-read read-text
+    ccomp acomp bcomp
+short-listing = refl
+
 pub addresses : Addresses
 unfolding I·text then′ give and-then number-of number-at
-    expression-byte condition-byte command-byte decline there due pass operand four number
+    expression-byte condition-byte command-byte decline there due pass operand number-due number
     expression-of expression condition-of condition command-of command all-read read-text
     ccomp acomp bcomp rename vars member once addr-of entries
 addresses = (refl, refl)
 
 pub bytes-of-B : BytesOfB
 unfolding B·text then′ give and-then settle number-of number-at bits-of bytes-of
-    expression-byte condition-byte command-byte decline there due pass operand four number
+    expression-byte condition-byte command-byte decline there due pass operand number-due number
     expression-of expression condition-of condition command-of command all-read read-text
     expression-records condition-records records expression-depth condition-depth depth
     expression-names condition-names names how-many
@@ -53,7 +60,7 @@ bytes-of-B = record {
 
 pub assemble-declines : AssembleDeclines
 unfolding B·text then′ give and-then settle number-of number-at
-    expression-byte condition-byte command-byte decline there due pass operand four number
+    expression-byte condition-byte command-byte decline there due pass operand number-due number
     expression-of expression condition-of condition command-of command all-read read-text
     expression-records condition-records records assemble-tests assemble
 assemble-declines = record {
@@ -64,7 +71,7 @@ assemble-declines = record {
 
 pub compile-declines : CompileDeclines
 unfolding B·text then′ give and-then settle number-of number-at
-    expression-byte condition-byte command-byte decline there due pass operand four number
+    expression-byte condition-byte command-byte decline there due pass operand number-due number
     expression-of expression condition-of condition command-of command all-read read-text
     expression-records condition-records records compile-tests compile
 compile-declines = record {

@@ -8,3 +8,4 @@ pub mod Tables
 pub mod Codes
 pub mod Calls
 pub mod GoingBack
+pub mod Respelling

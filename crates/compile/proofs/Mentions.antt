@@ -27,7 +27,7 @@ module _ (w : ℕ) where
 
   names-expression : (a : Expression) → member w (vars (acomp a)) ≡ expression-names a w
   unfolding acomp expression-names vars member once
-  names-expression (Constant z) = refl
+  names-expression (Constant w z) = refl
   names-expression (Expression.Variable v) = names-one v
   names-expression (Plus a b) = simp (member-append, names-expression a, names-expression b, or-false)
 

@@ -12,7 +12,9 @@ use lib.ListN.{length, getD, getElem?}
 use lib.Signed.{mag}
 use mir.Syntax.{w32}
 use mir.Val.{SFits}
+use mir.Facts.{sfits-widen}
 use Rattle.base.specs.Acts.{if_then_else_}
+use Rattle.text.specs.Syntax.{four-bytes, one-byte}
 use Rattle.text.specs.Syntax.{Expression, Constant, Plus, Condition, Bc, Not, And, Less, Command, SKIP, _:=_, _⨾_}
 use Rattle.text.specs.Syntax.{IF_THEN_ELSE_, WHILE_DO_}
 use Rattle.text.specs.Encoding.{ValidExpression, ValidCondition, Valid}
@@ -51,7 +53,8 @@ module _ (most : ℕ) where
 
   plain-expression : (a : Expression) → ValidExpression a → AllPlain most (acomp a)
   unfolding ValidExpression acomp
-  plain-expression (Constant z) h = (h, tt)
+  plain-expression (Constant four-bytes z) h = (h, tt)
+  plain-expression (Constant one-byte z) h = (sfits-widen tt h, tt)
   plain-expression (Expression.Variable v) h = (h, tt)
   plain-expression (Plus a b) h =
       append (acomp a) _ (plain-expression a (h .0)) (append (acomp b) _ (plain-expression b (h .1)) (tt, tt))

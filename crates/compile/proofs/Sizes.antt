@@ -16,7 +16,7 @@ use Rattle.compile.specs.Compilation.{acomp, bcomp, ccomp}
 
 pub expression-count : (a : Expression) → length (acomp a) ≡ expression-records a
 unfolding acomp expression-records
-expression-count (Constant z) = refl
+expression-count (Constant w z) = refl
 expression-count (Variable v) = refl
 expression-count (Plus a b) = simp (length-append, expression-count a, expression-count b) (omega arith)
 

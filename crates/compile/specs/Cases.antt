@@ -2,13 +2,13 @@
 -- to"), and where the three calls decline ("When a call declines").
 use mathlib.Core.Path.{_≡_}
 use Prim.Native.Nat.{ℕ}
-use mathlib.Core.List.{List, [], _∷_, _++_, map}
+use mathlib.Core.List.{List, [], _∷_, _++_}
 use lib.IntN.{pos, negsuc}
 use lib.ListN.{take, replicate}
 use Rattle.base.specs.Answers.{Answer, gives, refused, and-then}
 use Rattle.text.specs.Reading.{read-text}
 use Rattle.text.specs.Sizes.{sized}
-use Rattle.text.specs.Cases.{B·text, C·text, I·text, x64·text}
+use Rattle.text.specs.Cases.{B·text, C·text, C·short, I·text, x64·text}
 use Rattle.record.specs.Records.{AssemblyCode, MachineCode, LOADI, LOAD, ADD, STORE, JMP, JMPGE, variable, address}
 use Rattle.record.specs.Cases.{five}
 use Rattle.compile.specs.Compilation.{ccomp}
@@ -30,6 +30,10 @@ abbrev pub Listing : Type 0
 Listing = assembly-of C·text ≡ gives (
     LOAD (variable 0) ∷ LOADI (pos 3) ∷ JMPGE (pos 5)
     ∷ LOAD (variable 0) ∷ LOADI (pos 1) ∷ ADD ∷ STORE (variable 0) ∷ JMP (negsuc 7) ∷ [])
+
+-- "Both compile to the same LOADI" (document 02, W1): C with one-byte constants has C's records.
+abbrev pub ShortListing : Type 0
+ShortListing = assembly-of C·short ≡ assembly-of C·text
 
 -- "x0 := x1; x2 := x1: addresses x2 1, x1 2, x0 3": by last mention.
 abbrev pub Addresses : Type 0

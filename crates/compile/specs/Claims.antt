@@ -1,6 +1,6 @@
 -- What is claimed of compiled code. The proof of the same spelling stands in proofs/.
 -- Compilation gives as many records as reading says and names as many variables; machine code with its table goes back
--- to the same assembly, for the definitions and for the calls.
+-- to the same assembly, for the definitions and for the calls; a constant's width changes no record.
 use mathlib.Core.Path.{_≡_}
 use Prim.Native.Nat.{ℕ, _*_, _≤_}
 use mathlib.Core.Bool.{true}
@@ -10,7 +10,8 @@ use Rattle.base.specs.Answers.{gives}
 use Rattle.text.specs.Syntax.{Command}
 use Rattle.text.specs.Reading.{read-text}
 use Rattle.text.specs.Encoding.{Bytes, Valid}
-use Rattle.text.specs.Sizes.{records, cells, sizes}
+use Rattle.text.specs.Sizes.{records, cells}
+use Rattle.text.specs.Respelling.{Respelled}
 use Rattle.record.specs.Bytes.{assembly-kind, machine-kind}
 use Rattle.record.specs.Claims.{CodeFits}
 use Rattle.compile.specs.Compilation.{ccomp}
@@ -64,3 +65,10 @@ GoesBack = (text : List ℕ) → Bytes text → (c : Command) → read-text text
     → (out : List ℕ) → 5 * records c ≤ length out
     → let left = compile text lent .1 in
     go-back (take (5 * records c) (left .code)) (left .table) out ≡ (gives (records c), assemble text out .1)
+
+-- ---- Two spellings of constants
+
+-- "Both compile to the same LOADI" (document 02, W1): commands that differ in constants' widths alone have the same
+-- records, and so the same machine code and table, which are made of the records.
+abbrev pub SameRecords : Type 0
+SameRecords = (c d : Command) → Respelled c d → ccomp c ≡ ccomp d

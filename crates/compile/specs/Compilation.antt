@@ -11,7 +11,7 @@ use Rattle.record.specs.Records.{AssemblyCode, LOADI, LOAD, ADD, STORE, JMP, JM
 
 -- acomp leaves the value on top of the stack
 unfoldable pub acomp : Expression → AssemblyCode
-acomp (Constant z) = LOADI z ∷ []
+acomp (Constant w z) = LOADI z ∷ []
 acomp (Variable v) = LOAD (variable v) ∷ []
 acomp (Plus a b) = acomp a ++ (acomp b ++ (ADD ∷ []))
 

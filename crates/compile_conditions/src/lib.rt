@@ -26,8 +26,9 @@ use record::RECORD_BYTES;
 use record::put_record;
 use text_shape::AND;
 use text_shape::BC;
-use text_shape::CONSTANT;
 use text_shape::PLUS;
+use text_shape::VARIABLE;
+use text_shape::constant_at;
 
 // ---- Expressions
 
@@ -37,18 +38,18 @@ fn write_leaf(text: &[u8], at: usize, nest: usize, out: &mut [u8]) -> PartSize
     requires { ⌜ Writable acomp 0 (expression (now text) nest at) (now out) ⌝ }
     ensures { λ r. ⌜ Writes acomp (expression (now (text .entry)) nest at) (now (out .entry)) (now (out .exit)) r ⌝ }
 {
-    if text[at] == CONSTANT {
-        let constant = text_shape::constant_at(text, at);
-        let value = constant.value;
-        put_record(out, 0, LOADI, value);
+    if text[at] == VARIABLE {
+        put_record(out, 0, LOAD, text[at + 1] as i32);
         return PartSize {
-            next: at + 1 + constant.width,
+            next: at + 2,
             records: 1,
         };
     }
-    put_record(out, 0, LOAD, text[at + 1] as i32);
+    let constant = constant_at(text, at);
+    let value = constant.value;
+    put_record(out, 0, LOADI, value);
     PartSize {
-        next: at + 2,
+        next: at + 1 + constant.width,
         records: 1,
     }
 }

@@ -15,8 +15,8 @@ ghost use Rattle.compile_sizes.specs.Nots.{Behind};
 ghost use Rattle.compile_sizes.specs.Cache.{looked-up, size-noted, ConditionSizes};
 use text_shape::AND;
 use text_shape::BC;
-use text_shape::CONSTANT;
 use text_shape::NOT;
+use text_shape::PLUS;
 use text_shape::VARIABLE;
 use text_shape::constant_width;
 
@@ -81,11 +81,8 @@ fn expression_size(text: &[u8], at: usize, nest: usize) -> PartSize
     ensures { λ r. ⌜ Counts expression-records (expression (now (text .entry)) nest at) r ⌝ }
 {
     let byte = text[at];
-    if byte == CONSTANT {
-        return PartSize {
-            next: at + 1 + constant_width(byte),
-            records: 1,
-        };
+    if byte == PLUS {
+        return two_sizes(text, at, nest - 1);
     }
     if byte == VARIABLE {
         return PartSize {
@@ -93,7 +90,10 @@ fn expression_size(text: &[u8], at: usize, nest: usize) -> PartSize
             records: 1,
         };
     }
-    two_sizes(text, at, nest - 1)
+    PartSize {
+        next: at + 1 + constant_width(byte),
+        records: 1,
+    }
 }
 
 // ---- Conditions

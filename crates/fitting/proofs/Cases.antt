@@ -8,7 +8,7 @@ use Rattle.word.specs.Numbers.{number-of, number-at, bits-of, bytes-of}
 use Rattle.word.specs.Sums.{limited, sum32}
 use Rattle.word.specs.Targets.{within, target}
 use Rattle.text.specs.Reading.{expression-byte, condition-byte, command-byte, decline, there, due, pass, operand}
-use Rattle.text.specs.Reading.{four, number, expression-of, expression, condition-of, condition, command-of}
+use Rattle.text.specs.Reading.{number-due, number, expression-of, expression, condition-of, condition, command-of}
 use Rattle.text.specs.Reading.{command, all-read, read-text}
 use Rattle.text.specs.Sizes.{expression-records, condition-records, records, expression-depth, condition-depth}
 use Rattle.text.specs.Sizes.{depth, expression-names, condition-names, names, how-many}
@@ -39,7 +39,7 @@ pub profiles : Profiles
 unfolding cases measured by-rules by-machine zeros
     A·text B·text C·text D·text E·text F·text G·text H·text I·text J·text K·text
     then′ give and-then settle number-of number-at bits-of bytes-of limited sum32 within target
-    expression-byte condition-byte command-byte decline there due pass operand four number
+    expression-byte condition-byte command-byte decline there due pass operand number-due number
     expression-of expression condition-of condition command-of command all-read read-text
     expression-records condition-records records expression-depth condition-depth depth
     expression-names condition-names names how-many

@@ -6,3 +6,4 @@ pub mod Memories
 pub mod Counts
 pub mod Rows
 pub mod Demand3
+pub mod Respelling

@@ -162,7 +162,7 @@ module _ {M : Type 0} (sum : SumRule) (D : ℕ) (o : Memory M VariableNumber) (P
 
   simE : (a : Expression) → SimE a
   unfolding acomp expression-depth value act held pop taken then′ give cell add onto
-  simE (Constant z) p q k g d m n G K h =
+  simE (Constant w z) p q k g d m n G K h =
       at-record p k m (LOADI z) (g .0) n (give z) K
       (λ n′ l. push-sim z p q k k (g .1) (omega arith) m n n′ (omega arith) G K h)
   simE (Variable v) p q k g d m n G K h =

@@ -6,7 +6,7 @@ use Rattle.base.specs.Answers.{and-then, settle}
 use Rattle.word.specs.Numbers.{number-of, number-at}
 use Rattle.word.specs.Sums.{limited, sum32}
 use Rattle.text.specs.Reading.{expression-byte, condition-byte, command-byte, decline, there, due, pass, operand}
-use Rattle.text.specs.Reading.{four, number, expression-of, expression, condition-of, condition, command-of}
+use Rattle.text.specs.Reading.{number-due, number, expression-of, expression, condition-of, condition, command-of}
 use Rattle.text.specs.Reading.{command, all-read, read-text}
 use Rattle.text.specs.Sizes.{expression-records, condition-records, records, expression-depth, condition-depth}
 use Rattle.text.specs.Sizes.{depth, expression-names, condition-names, names, how-many}
@@ -26,7 +26,7 @@ use Rattle.print.specs.Cases.{PrintedB, PrintedC, PrintedG, PrintedJ, Pr
 
 pub printed-B : PrintedB
 unfolding B·text zeros then′ give and-then settle number-of number-at limited sum32
-    expression-byte condition-byte command-byte decline there due pass operand four number
+    expression-byte condition-byte command-byte decline there due pass operand number-due number
     expression-of expression condition-of condition command-of command all-read read-text
     expression-records condition-records records expression-depth condition-depth depth
     expression-names condition-names names how-many
@@ -38,7 +38,7 @@ printed-B = refl
 
 pub printed-C : PrintedC
 unfolding C·text zeros then′ give and-then settle number-of number-at limited sum32
-    expression-byte condition-byte command-byte decline there due pass operand four number
+    expression-byte condition-byte command-byte decline there due pass operand number-due number
     expression-of expression condition-of condition command-of command all-read read-text
     expression-records condition-records records expression-depth condition-depth depth
     expression-names condition-names names how-many
@@ -50,7 +50,7 @@ printed-C = refl
 
 pub printed-G : PrintedG
 unfolding G·text zeros then′ give and-then settle number-of number-at limited sum32
-    expression-byte condition-byte command-byte decline there due pass operand four number
+    expression-byte condition-byte command-byte decline there due pass operand number-due number
     expression-of expression condition-of condition command-of command all-read read-text
     expression-records condition-records records expression-depth condition-depth depth
     expression-names condition-names names how-many
@@ -62,7 +62,7 @@ printed-G = refl
 
 pub printed-J : PrintedJ
 unfolding J·text zeros then′ give and-then
-    expression-byte condition-byte command-byte decline there due pass operand four number
+    expression-byte condition-byte command-byte decline there due pass operand number-due number
     expression-of expression condition-of condition command-of command all-read read-text
     expression-records condition-records records expression-depth condition-depth depth
     expression-names condition-names names how-many
@@ -73,7 +73,7 @@ printed-J = rw (forever 1000000 zeros refl)
 
 pub printed-refusal : PrintedRefusal
 unfolding then′ give number-of number-at
-    expression-byte condition-byte command-byte decline there due pass operand four number
+    expression-byte condition-byte command-byte decline there due pass operand number-due number
     expression-of expression condition-of condition command-of command all-read read-text
     decimal-by refusal-line answer-lines
 printed-refusal = refl

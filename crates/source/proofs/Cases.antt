@@ -10,7 +10,7 @@ use Rattle.base.specs.Ends.{End, Result, result, report}
 use Rattle.word.specs.Numbers.{number-of, number-at}
 use Rattle.word.specs.Sums.{limited, sum32}
 use Rattle.text.specs.Reading.{expression-byte, condition-byte, command-byte, decline, there, due, pass, operand}
-use Rattle.text.specs.Reading.{four, number, expression-of, expression, condition-of, condition, command-of}
+use Rattle.text.specs.Reading.{number-due, number, expression-of, expression, condition-of, condition, command-of}
 use Rattle.text.specs.Reading.{command, all-read, read-text}
 use Rattle.text.specs.Syntax.{Bc, SKIP, WHILE_DO_}
 use Rattle.text.specs.Cases.{A·text, B·text, C·text, D·text, E·text, F·text, G·text, H·text, I·text, J·text, K·text}
@@ -25,7 +25,7 @@ use Rattle.source.proofs.Calls.{source-runs}
 pub tallies : Tallies
 unfolding texts A·text B·text C·text D·text E·text F·text G·text H·text I·text J·text K·text zeros
     then′ give and-then settle number-of number-at limited sum32
-    expression-byte condition-byte command-byte decline there due pass operand four number
+    expression-byte condition-byte command-byte decline there due pass operand number-due number
     expression-of expression condition-of condition command-of command all-read read-text
     charge tick cell assign total add value truth loop exec end-of result-of source-tests run-source
 tallies = refl
@@ -46,7 +46,7 @@ forever-rules n s = forever-loop (suc n) n s (omega arith)
 
 J-read : read-text J·text ≡ gives (WHILE (Bc true) DO SKIP)
 unfolding J·text then′ give
-    expression-byte condition-byte command-byte decline there due pass operand four number
+    expression-byte condition-byte command-byte decline there due pass operand number-due number
     expression-of expression condition-of condition command-of command all-read read-text
 J-read = refl
 
@@ -60,7 +60,7 @@ forever budget s long =
 
 pub declines : Declines
 unfolding B·text then′ give and-then settle number-of number-at
-    expression-byte condition-byte command-byte decline there due pass operand four number
+    expression-byte condition-byte command-byte decline there due pass operand number-due number
     expression-of expression condition-of condition command-of command all-read read-text
     source-tests run-source
 declines = record {

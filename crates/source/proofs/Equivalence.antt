@@ -38,7 +38,7 @@ module _ (sum : SumRule) (exact : Exact sum) where
   value-ends : (a : Expression) (n : ℕ) (s : Store) (Q : ℤ → State → Type 0)
       → ((n′ : ℕ) → n′ ≤ n → Q (aval a s) (state n′ s)) → Ends (value sum a (state n s)) Q
   unfolding value aval give cell
-  value-ends (Constant z) n s Q h = ends-step n s (give z) Q (λ n′ l. h n′ (omega arith))
+  value-ends (Constant w z) n s Q h = ends-step n s (give z) Q (λ n′ l. h n′ (omega arith))
   value-ends (Variable v) n s Q h = ends-step n s (cell v) Q (λ n′ l. h n′ (omega arith))
   value-ends (Plus a b) n s Q h =
       ends-then (value sum a (state n s)) _ Q (value-ends a n s _ (λ n₁ l₁.
@@ -162,7 +162,7 @@ module _ (sum : SumRule) (exact : Exact sum) where
 
   value-gives : (a : Expression) (s : Store) → Gives (value sum a) s (aval a s) s
   unfolding value aval cell
-  value-gives (Constant z) s = gives-step (give z) s s z (gives-give z s)
+  value-gives (Constant w z) s = gives-step (give z) s s z (gives-give z s)
   value-gives (Variable v) s = gives-step (cell v) s s _
       (gives-free (cell v) s s (getD s v (pos 0)) (λ n. inl refl))
   value-gives (Plus a b) s =

@@ -5,3 +5,4 @@ pub mod SumRules
 pub mod Ticks
 pub mod Calls
 pub mod Texts
+pub mod Respelling

@@ -71,7 +71,7 @@ module _ (sum : SumRule) where
   value-falls : (a : Expression) (n : ℕ) (s : Store) (Q : ℤ → State → Type 0)
       → ((z : ℤ) (n′ : ℕ) → n′ ≤ n → Q z (state n′ s)) → Ends (value sum a (state n s)) Q
   unfolding value give cell add
-  value-falls (Constant z) n s Q h = ends-step n s (give z) Q (λ n′ l. h z n′ (omega arith))
+  value-falls (Constant w z) n s Q h = ends-step n s (give z) Q (λ n′ l. h z n′ (omega arith))
   value-falls (Variable v) n s Q h = ends-step n s (cell v) Q (λ n′ l. h _ n′ (omega arith))
   value-falls (Plus a b) n s Q h =
       ends-then (value sum a (state n s)) _ Q (value-falls a n s _ (λ x n₁ l₁.

@@ -54,7 +54,7 @@ module _ (S H : SumRule) (same : (n : ℕ) (x y z : ℤ) → S n x y ≡ Fits z 
 
   value-agree : (a : Expression) (s : State) → Agree (value S a s) (value H a s)
   unfolding value
-  value-agree (Constant z) s = agree-refl _
+  value-agree (Constant w z) s = agree-refl _
   value-agree (Variable v) s = agree-refl _
   value-agree (Plus a b) s =
       agree-then (value S a s) _ _ _ (value-agree a s) (λ x s₁.

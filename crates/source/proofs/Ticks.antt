@@ -67,7 +67,7 @@ module _ (sum : SumRule) where
 
   low-value : (a : Expression) → Lowers (value sum a)
   unfolding value
-  low-value (Constant z) n s h = low-after (give z) (low-give z) n s h
+  low-value (Constant w z) n s h = low-after (give z) (low-give z) n s h
   low-value (Variable v) n s h = low-after (cell v) (low-cell v) n s h
   low-value (Plus a b) n s h =
       low-then _

@@ -11,7 +11,7 @@ use Rattle.source.specs.Rules.{Store}
 
 -- The published aval and bval
 unfoldable pub aval : Expression → Store → ℤ
-aval (Constant z) s = z
+aval (Constant w z) s = z
 aval (Variable v) s = getD s v (pos 0)
 aval (Plus a b) s = aval a s +ℤ aval b s
 

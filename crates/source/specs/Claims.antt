@@ -1,6 +1,6 @@
 -- What is claimed of the source rules. The proof of the same spelling stands in proofs/.
 -- WHILE is the printed rule; the source rules lead to the stores to which the published big-step rules lead, wherever no
--- budget ends out of range; and two rules for sums that agree give the same runs.
+-- budget ends out of range; two rules for sums that agree give the same runs; and a constant's width changes no run.
 use mathlib.Core.Path.{_≡_}
 use mathlib.Core.Logic.{_↔_}
 use mathlib.Core.Bool.{false}
@@ -15,6 +15,7 @@ use Rattle.word.specs.Sums.{SumRule, sum32}
 use Rattle.word.specs.declared.Sum.the-variants.{Fits}
 use Rattle.text.specs.Syntax.{Condition, Command, WHILE_DO_}
 use Rattle.text.specs.Reading.{read-text}
+use Rattle.text.specs.Respelling.{Respelled}
 use Rattle.source.specs.BigStep.{BigStep}
 use Rattle.source.specs.Calls.{run-source}
 use Rattle.source.specs.Rules.{Early, State, Store, state, tick, truth, exec}
@@ -62,3 +63,10 @@ abbrev pub Agreed : SumRule → SumRule → Type 0
 Agreed first second = ((n : ℕ) (x y z : ℤ) → first n x y ≡ Fits z → second n x y ≡ Fits z)
     → (c : Command) (s : State) → ((u : State) → exec first c s ≡ ended (Early.out-of-range, u) → ⊥)
     → exec second c s ≡ exec first c s
+
+-- ---- Two spellings of constants
+
+-- `13` "means the same constant as `10` with four" (document 02, W1): commands that differ in constants' widths alone
+-- run alike, whatever the rule for sums.
+abbrev pub SameRuns : SumRule → Type 0
+SameRuns sum = (c d : Command) → Respelled c d → exec sum c ≡ exec sum d

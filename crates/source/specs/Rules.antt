@@ -64,7 +64,7 @@ module _ (sum : SumRule) where
 
   -- "Constant or variable: one tick. Plus: left, right, then one tick for the sum"
   unfoldable pub value : Expression → Rule ℤ
-  value (Constant z) = do tick; give z
+  value (Constant w z) = do tick; give z
   value (Variable v) = do tick; cell v
   value (Plus a b) = do x ← value a; y ← value b; tick; add x y
 

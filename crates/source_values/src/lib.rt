@@ -11,7 +11,7 @@ ghost use Rattle.base.specs.Acts.{ended, then′, give};
 ghost use Rattle.word.specs.Sums.{sum32};
 ghost use Rattle.text.specs.Syntax.{Constant, Variable, Bc};
 ghost use Rattle.text.specs.Reading.{expression, condition};
-ghost use Rattle.text_shape.specs.Shape.{constant-width, constant-at};
+ghost use Rattle.text_shape.specs.Shape.{width-of, constant-width, constant-at};
 ghost use Rattle.text_ends.specs.Ends.{PartEnds};
 ghost use Rattle.source.specs.Rules.{spent, state, tick, add, value, truth};
 ghost use Rattle.source_values.specs.Placed.{Read, placed, reaching, inverse};
@@ -19,9 +19,9 @@ ghost use Rattle.source_values.specs.Code.{valued, tested};
 use text_ends::part_end;
 use text_shape::AND;
 use text_shape::BC;
-use text_shape::CONSTANT;
 use text_shape::LESS;
 use text_shape::NOT;
+use text_shape::PLUS;
 use text_shape::VARIABLE;
 use text_shape::constant_at;
 use word::Sum;
@@ -75,12 +75,13 @@ fn constant(text: &[u8], at: usize, left: u32) -> Value
     requires { ⌜ at + (1 + constant-width (getD (now text) at 0)) ≤ length (now text) ⌝ }
     ensures { λ r. ⌜ ((m : List ℤ) → valued r m
         ≡ reaching (at + (1 + constant-width (getD (now (text .entry)) at 0)))
-        (value sum32 (Constant (constant-at (now (text .entry)) at .value)) (state left m))) ⌝ }
+        (value sum32 (Constant (width-of (getD (now (text .entry)) at 0)) (constant-at (now (text .entry)) at .value))
+        (state left m))) ⌝ }
 {
+    let constant = constant_at(text, at);
     if left == 0 {
         return Value::spent();
     }
-    let constant = constant_at(text, at);
     Value::Of {
         value: constant.value,
         next: at + 1 + constant.width,
@@ -136,9 +137,9 @@ pub fn evaluate(text: &[u8], at: usize, nest: usize, store: &[i32], left: u32) -
 {
     let op = text[at];
     match op {
-        CONSTANT => constant(text, at, left),
         VARIABLE => variable(text, at, store, left),
-        _ => plus(text, at, nest, store, left),
+        PLUS => plus(text, at, nest, store, left),
+        _ => constant(text, at, left),
     }
 }
 

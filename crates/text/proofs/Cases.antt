@@ -1,22 +1,22 @@
 -- What reading gives for profiles A to K and for the examples of refusals, by computation (Cases: Readings, Refusals,
--- Places, FirstFault).
+-- Places, FirstFault, OneByteConstants).
 use mathlib.Core.Path.{refl}
 use Rattle.base.specs.Acts.{then′, give}
 use Rattle.base.specs.Answers.{and-then}
-use Rattle.word.specs.Numbers.{number-of, number-at}
+use Rattle.word.specs.Numbers.{number-of, number-at, byte-number}
 use Rattle.text.specs.Reading.{expression-byte, condition-byte, command-byte, decline, there, due, pass, operand}
-use Rattle.text.specs.Reading.{four, number, expression-of, expression, condition-of, condition, command-of}
+use Rattle.text.specs.Reading.{number-due, number, expression-of, expression, condition-of, condition, command-of}
 use Rattle.text.specs.Reading.{command, all-read, read-text}
 use Rattle.text.specs.Sizes.{expression-records, condition-records, records, expression-depth, condition-depth}
 use Rattle.text.specs.Sizes.{depth, expression-names, condition-names, names, how-many}
 use Rattle.text.specs.Calls.{read-call}
 use Rattle.text.specs.Cases.{A·text, B·text, C·text, D·text, E·text, F·text, G·text, H·text, I·text}
-use Rattle.text.specs.Cases.{J·text, K·text, texts, Readings, Refusals, Places, FirstFault}
+use Rattle.text.specs.Cases.{J·text, K·text, texts, Readings, Refusals, Places, FirstFault, OneByteConstants}
 
 pub readings : Readings
 unfolding texts A·text B·text C·text D·text E·text F·text G·text H·text I·text J·text K·text
     then′ give and-then number-of number-at
-    expression-byte condition-byte command-byte decline there due pass operand four number
+    expression-byte condition-byte command-byte decline there due pass operand number-due number
     expression-of expression condition-of condition command-of command all-read read-text read-call
     expression-records condition-records records expression-depth condition-depth depth
     expression-names condition-names names how-many
@@ -24,7 +24,7 @@ readings = refl
 
 pub refusals : Refusals
 unfolding then′ give and-then number-of number-at
-    expression-byte condition-byte command-byte decline there due pass operand four number
+    expression-byte condition-byte command-byte decline there due pass operand number-due number
     expression-of expression condition-of condition command-of command all-read read-text read-call
     expression-records condition-records records expression-depth condition-depth depth
     expression-names condition-names names how-many
@@ -32,7 +32,7 @@ refusals = refl
 
 pub places : Places
 unfolding then′ give and-then number-of number-at
-    expression-byte condition-byte command-byte decline there due pass operand four number
+    expression-byte condition-byte command-byte decline there due pass operand number-due number
     expression-of expression condition-of condition command-of command all-read read-text read-call
     expression-records condition-records records expression-depth condition-depth depth
     expression-names condition-names names how-many
@@ -54,7 +54,7 @@ places = record {
 
 pub first-fault : FirstFault
 unfolding then′ give and-then
-    expression-byte condition-byte command-byte decline there due pass operand four number
+    expression-byte condition-byte command-byte decline there due pass operand number-due number
     expression-of expression condition-of condition command-of command all-read read-text read-call
 first-fault = record {
   six-reading = refl;
@@ -68,3 +68,11 @@ first-fault = record {
   two-three = refl;
   three-five = refl;
 }
+
+pub one-byte-constants : OneByteConstants
+unfolding then′ give and-then byte-number
+    expression-byte condition-byte command-byte decline there due pass operand number-due number
+    expression-of expression condition-of condition command-of command all-read read-text read-call
+    expression-records condition-records records expression-depth condition-depth depth
+    expression-names condition-names names how-many
+one-byte-constants = record { short-C = refl; least = refl; no-byte = refl; no-command = refl; no-condition = refl }

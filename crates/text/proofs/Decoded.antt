@@ -1,7 +1,7 @@
 -- From the reading to the encoding: what is read stands in the text, within the limits, and what ends a reading
 -- is a refusal of 1 to 5 with its place in the text. By induction on the nesting left; each construct goes by its
 -- first byte, in the order of the tests of `expression-byte` and its like.
-use mathlib.Core.Path.{_≡_, refl, ap}
+use mathlib.Core.Path.{_≡_, refl, sym, ap}
 use Prim.Native.Nat.{ℕ, zero, suc, _+_, _≤_, _<_}
 use native.Mathlib.Omega.{arith}
 use mathlib.Core.Bool.{Bool, true, false}
@@ -11,13 +11,14 @@ use lib.ListN.{length, getD}
 use borrow.Author.Tests.{leb-true, eqb-true}
 use Rattle.base.specs.Acts.{Outcome, ok, ended, then′, _>>=_, _>>_, give, if_then_else_}
 use Rattle.word.specs.Numbers.{number-at}
-use Rattle.word.proofs.Claims.{bytes-of-number, numbers-fit}
+use Rattle.word.proofs.Claims.{bytes-of-number, numbers-fit, signed-bytes}
+use Rattle.text.specs.Syntax.{Width, four-bytes, one-byte}
 use Rattle.text.specs.Syntax.{Constant, Variable, Plus, Bc, Not, And, Less}
 use Rattle.text.specs.Syntax.{SKIP, _:=_, _⨾_, IF_THEN_ELSE_, WHILE_DO_}
 use Rattle.base.specs.Answers.{Refusal, refusal}
 use Rattle.text.specs.Reading.{Reader, ExpressionByte, expression-byte, ConditionByte}
 use Rattle.text.specs.Reading.{condition-byte, CommandByte, command-byte, decline, there, due, pass, operand}
-use Rattle.text.specs.Reading.{four, number, expression-of, expression, condition-of, condition, command-of}
+use Rattle.text.specs.Reading.{number-due, number, expression-of, expression, condition-of, condition, command-of}
 use Rattle.text.specs.Reading.{command}
 use Rattle.text.specs.Encoding.{Bytes, expression-bytes, condition-bytes, command-bytes}
 use Rattle.text.specs.Encoding.{ValidExpression, ValidCondition, Valid}
@@ -97,12 +98,18 @@ module _ (text : List ℕ) where
       let third : i + 1 + 1 + 1 ≡ i + 3 = omega arith in
       (omega arith, refl, (omega arith, refl, (omega arith, cc, (omega arith, cc, omega arith))))
 
-  number-decoded : Bytes text → (nest : ℕ) → Finds numbers text nest (number text)
-  unfolding number four then′ number-at
-  number-decoded small nest i =
+  number-decoded : Bytes text → (w : Width) (nest : ℕ) → Finds (numbers w) text nest (number text w)
+  unfolding Holds number number-due then′ number-at
+  number-decoded small four-bytes nest i =
       enough 4 i _ (λ w. goes (record {
         holds = rw (bytes-of-number _ _ _ _ (small i) (small (i + 1)) (small (i + 2)) (small (i + 3))) (bytes-at i w);
         valid = numbers-fit _ _ _ _ (small i) (small (i + 1)) (small (i + 2)) (small (i + 3));
+        nested = omega arith;
+      }))
+  number-decoded small one-byte nest i =
+      enough 1 i _ (λ w. goes (record {
+        holds = (omega arith, sym (signed-bytes .byte-again _ (small i)), refl);
+        valid = signed-bytes .fits _ (small i);
         nested = omega arith;
       }))
 
@@ -172,10 +179,13 @@ module _ (text : List ℕ) where
         λ k. Fine text (Stands expressions text (suc nest) i) (expression-of text (expression text nest) k i) in
         let a = expression-decoded nest in
         begins i _ (λ w.
-        by-byte At i w 0x10 (λ o. one Constant o (λ p v. (refl, v, omega arith)) (number-decoded small nest))
+        by-byte At i w 0x10
+        (λ o. one (Constant four-bytes) o (λ p v. (refl, v, omega arith)) (number-decoded small four-bytes nest))
         (by-byte At i w 0x11 (λ o. one Variable o (λ p v. (refl, omega arith, omega arith)) (operand-decoded 63 nest))
         (by-byte At i w 0x12 (λ o. two Plus o (λ p v. (refl, v, omega arith)) a a)
-        (declines 2 i (omega arith)))))
+        (by-byte At i w 0x13
+        (λ o. one (Constant one-byte) o (λ p v. (refl, v, omega arith)) (number-decoded small one-byte nest))
+        (declines 2 i (omega arith))))))
 
     pub condition-decoded : (nest : ℕ) → Finds conditions text nest (condition text nest)
     unfolding condition condition-of condition-byte condition-bytes ValidCondition condition-nesting

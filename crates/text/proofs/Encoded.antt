@@ -9,16 +9,17 @@ use mathlib.Core.List.{List, [], _∷_, _++_}
 use lib.Dec.{eqb}
 use lib.IntN.{ℤ}
 use lib.ListN.{length}
-use mir.Syntax.{w32}
+use mir.Syntax.{w8, w32}
 use mir.Val.{SFits}
 use borrow.Author.Tests.{le-leb}
 use Rattle.base.specs.Acts.{ok, then′, _>>=_, _>>_, give, if_then_else_}
-use Rattle.word.specs.Numbers.{number-at, bytes-of}
-use Rattle.word.proofs.Claims.{number-of-bytes}
+use Rattle.word.specs.Numbers.{number-at, bytes-of, byte-of}
+use Rattle.word.proofs.Claims.{number-of-bytes, signed-bytes}
+use Rattle.text.specs.Syntax.{four-bytes, one-byte}
 use Rattle.text.specs.Syntax.{Expression, Constant, Variable, Plus, Condition, Bc, Not, And, Less, Command}
 use Rattle.text.specs.Syntax.{SKIP, _:=_, _⨾_, IF_THEN_ELSE_, WHILE_DO_}
 use Rattle.text.specs.Reading.{Reader, expression-byte, condition-byte, command-byte, there, due, pass, operand}
-use Rattle.text.specs.Reading.{four, number, expression-of, expression, condition-of, condition, command-of}
+use Rattle.text.specs.Reading.{number-due, number, expression-of, expression, condition-of, condition, command-of}
 use Rattle.text.specs.Reading.{command}
 use Rattle.text.specs.Encoding.{expression-bytes, condition-bytes, command-bytes}
 use Rattle.text.specs.Encoding.{ValidExpression, ValidCondition, Valid}
@@ -86,8 +87,15 @@ module _ (text : List ℕ) where
     reads = λ i j s. rw (le-leb (i + 1) (length text) (omega arith), s .1, le-leb b most h, s .2);
   }
 
-  number-reads : (z : ℤ) → SFits w32 z → Reads text (number text) (bytes-of z) z
-  unfolding Holds number there four then′ number-at bytes-of
+  byte-reads : (z : ℤ) → SFits w8 z → Reads text (number text one-byte) (byte-of z ∷ []) z
+  unfolding Holds number there number-due then′
+  byte-reads z f = record {
+    reads = λ i j s.
+        rw (le-leb (i + 1) (length text) (omega arith), s .1, s .2) (ap (λ z. ok z j) (signed-bytes .number-again z f));
+  }
+
+  number-reads : (z : ℤ) → SFits w32 z → Reads text (number text four-bytes) (bytes-of z) z
+  unfolding Holds number there number-due then′ number-at bytes-of
   number-reads z f = record {
     reads = λ i j s.
         let second : i + 2 ≡ i + 1 + 1 = omega arith in
@@ -127,7 +135,10 @@ module _ (text : List ℕ) where
   pub expression-encoded : (a : Expression) (nest : ℕ) → ValidExpression a → expression-nesting a ≤ nest
       → Reads text (expression text nest) (expression-bytes a) a
   unfolding expression-bytes ValidExpression expression-nesting expression-byte expression-of
-  expression-encoded (Constant z) nest v n = expression-begins nest n (one Constant (number-reads z v))
+  expression-encoded (Constant four-bytes z) nest v n =
+      expression-begins nest n (one (Constant four-bytes) (number-reads z v))
+  expression-encoded (Constant one-byte z) nest v n =
+      expression-begins nest n (one (Constant one-byte) (byte-reads z v))
   expression-encoded (Variable w) nest v n = expression-begins nest n (one Variable (operand-reads 63 w (omega arith)))
   expression-encoded (Plus a b) nest v n =
       let x = expression-encoded a (nest - 1) (v .0) (omega arith) in

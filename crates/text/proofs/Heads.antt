@@ -9,6 +9,7 @@ use lib.ListN.{length, getD}
 use borrow.Author.Tests.{le-leb, lt-leb, ne-eqb}
 use Rattle.base.specs.Acts.{ended, then′, _>>_}
 use Rattle.base.specs.Answers.{refusal}
+use Rattle.text.specs.Syntax.{four-bytes, one-byte}
 use Rattle.text.specs.Reading.{Reader, decline, there, due}
 use Rattle.text.specs.Reading.{constant, variable, plus, no-expression, expression-byte}
 use Rattle.text.specs.Reading.{expression-of, expression}
@@ -20,9 +21,13 @@ use Rattle.text.specs.Reading.{command-of, command}
 -- ---- What a byte begins
 
 module _ {b : ℕ} where
-  pub is-constant : b ≡ 0x10 → expression-byte b ≡ constant
+  pub is-constant : b ≡ 0x10 → expression-byte b ≡ constant four-bytes
   unfolding expression-byte
   is-constant e = rw e
+
+  pub is-one-byte-constant : b ≡ 0x13 → expression-byte b ≡ constant one-byte
+  unfolding expression-byte
+  is-one-byte-constant e = rw e
 
   pub is-variable : b ≡ 0x11 → expression-byte b ≡ variable
   unfolding expression-byte
@@ -32,9 +37,10 @@ module _ {b : ℕ} where
   unfolding expression-byte
   is-plus e = rw e
 
-  pub is-no-expression : (b ≡ 0x10 → ⊥) → (b ≡ 0x11 → ⊥) → (b ≡ 0x12 → ⊥) → expression-byte b ≡ no-expression
+  pub is-no-expression : (b ≡ 0x10 → ⊥) → (b ≡ 0x11 → ⊥) → (b ≡ 0x12 → ⊥) → (b ≡ 0x13 → ⊥)
+      → expression-byte b ≡ no-expression
   unfolding expression-byte
-  is-no-expression n0 n1 n2 = rw (ne-eqb b 0x10 n0, ne-eqb b 0x11 n1, ne-eqb b 0x12 n2)
+  is-no-expression n0 n1 n2 n3 = rw (ne-eqb b 0x10 n0, ne-eqb b 0x11 n1, ne-eqb b 0x12 n2, ne-eqb b 0x13 n3)
 
   pub is-truth : b ≡ 0x20 → condition-byte b ≡ truth
   unfolding condition-byte

@@ -8,3 +8,4 @@ pub mod Heads
 pub mod Ranges
 pub mod Opened
 pub mod Same
+pub mod Respelling

@@ -6,6 +6,7 @@ use mathlib.Core.Bool.{Bool, true, false, not, Bool·beq}
 use mathlib.Core.List.{_++_}
 use lib.ListN.{length, length-append}
 use Rattle.base.specs.Acts.{if_then_else_}
+use Rattle.text.specs.Syntax.{four-bytes, one-byte}
 use Rattle.text.specs.Syntax.{Expression, Constant, Variable, Plus, Condition, Bc, Not, And, Less, Command}
 use Rattle.text.specs.Syntax.{SKIP, _:=_, _⨾_, IF_THEN_ELSE_, WHILE_DO_}
 use Rattle.text.specs.Encoding.{expression-bytes, condition-bytes, command-bytes}
@@ -18,7 +19,7 @@ use Rattle.text.specs.Claims.{Shallow, Short, Few}
 
 expression-depth-nesting : (a : Expression) → expression-depth a ≤ expression-nesting a
 unfolding expression-depth expression-nesting
-expression-depth-nesting (Constant z) = omega arith
+expression-depth-nesting (Constant w z) = omega arith
 expression-depth-nesting (Variable v) = omega arith
 expression-depth-nesting (Plus a b) = omega (arith, expression-depth-nesting a, expression-depth-nesting b)
 
@@ -45,7 +46,8 @@ shallow c h = omega (arith, depth-nesting c)
 
 pub expression-short : (a : Expression) → expression-records a ≤ length (expression-bytes a)
 unfolding expression-records expression-bytes
-expression-short (Constant z) = omega arith
+expression-short (Constant four-bytes z) = omega arith
+expression-short (Constant one-byte z) = omega arith
 expression-short (Variable v) = omega arith
 expression-short (Plus a b) =
     omega (arith, length-append (expression-bytes a) (expression-bytes b), expression-short a, expression-short b)

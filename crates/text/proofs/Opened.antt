@@ -2,6 +2,7 @@
 -- is left for it; by that byte it has operands, whose bytes are there, or parts, each read where the one before it
 -- ends. The idea: an act and then more gave a value only if the act did (`after`).
 use mathlib.Core.Path.{_≡_, refl, sym, ap, _∙_}
+use mathlib.Core.Logic.{_⊎_, inl, inr}
 use Prim.Native.Nat.{ℕ, _+_, _-_, _*_, _≤_, _<_}
 use native.Mathlib.Omega.{arith}
 use mathlib.Core.Bool.{Bool, true, false}
@@ -11,18 +12,18 @@ use lib.ListN.{length, getD}
 use borrow.Author.Tests.{ltb-true, ltb-false, leb-true, eqb-true, eqb-false}
 use Rattle.base.specs.Acts.{Outcome, ok, ended, then′, _>>=_, _>>_, give, if_then_else_}
 use Rattle.base.specs.Answers.{Answer, gives, refused, unless_refuse_at_else_, and-then}
-use Rattle.word.specs.Numbers.{number-at}
+use Rattle.text.specs.Syntax.{Width, bytes-in}
 use Rattle.text.specs.Syntax.{Expression, Constant, Variable, Plus, Condition, Bc, Not, And, Less, Command}
 use Rattle.text.specs.Syntax.{SKIP, _:=_, _⨾_, IF_THEN_ELSE_, WHILE_DO_}
 use Rattle.base.specs.Answers.{Refusal, refusal}
-use Rattle.text.specs.Reading.{Reader, decline, there, due, pass, operand, four, number}
-use Rattle.text.specs.Reading.{ExpressionByte, expression-byte, expression-of, expression}
+use Rattle.text.specs.Reading.{Reader, decline, there, due, pass, operand, operand-number, number-due, number}
+use Rattle.text.specs.Reading.{ExpressionByte, constant, expression-byte, expression-of, expression}
 use Rattle.text.specs.Reading.{ConditionByte, condition-byte, condition-of, condition}
 use Rattle.text.specs.Reading.{CommandByte, command-byte, command-of, command, all-read, read-text}
 use Rattle.text.specs.Sizes.{sizes}
 use Rattle.text.specs.declared.Sizes.{Sizes}
 use Rattle.text.specs.Calls.{read-call}
-use Rattle.text.proofs.Heads.{is-constant, is-variable, is-plus, is-no-expression, is-truth, is-negation}
+use Rattle.text.proofs.Heads.{is-variable, is-plus, is-no-expression, is-truth, is-negation}
 use Rattle.text.proofs.Heads.{is-conjunction, is-comparison, is-no-condition, is-skip, is-assignment}
 use Rattle.text.proofs.Heads.{is-sequence, is-choice, is-loop, is-no-command}
 use Rattle.text.proofs.Heads.{expression-past, expression-deep, expression-at, condition-past, condition-deep}
@@ -190,16 +191,16 @@ module _ (text : List ℕ) (nest i : ℕ) where
         ap (λ k. expression-of text side k i) (sym b)
         ∙ sym (expression-at text nest i (o .inside) (omega arith)) ∙ e
 
-    pub constant-at : getD text i 0 ≡ 0x10
-        → Leaf text (expression text nest i) 5 i (Constant (number-at text (i + 1))) a n
-    unfolding expression-of pass number four give then′
-    constant-at b =
-        let c = one (number text (i + 1)) Constant (as-expression _ (is-constant b)) in
-        let w = enough text 4 (i + 1) _ (c .read) in
-        let q = w .1 in
+    pub constant-at : (w : Width) → expression-byte (getD text i 0) ≡ constant w
+        → Leaf text (expression text nest i) (1 + bytes-in w) i (Constant w (operand-number w text (i + 1))) a n
+    unfolding expression-of pass number number-due give then′
+    constant-at w b =
+        let c = one (number text w (i + 1)) (Constant w) (as-expression _ b) in
+        let k = enough text (bytes-in w) (i + 1) _ (c .read) in
+        let q = k .1 in
         let p = c .is in
-        let s : i + 1 + 4 ≡ n = cc in
-        leaf e (cc) (omega arith) (omega (arith, w .0))
+        let s : i + 1 + bytes-in w ≡ n = cc in
+        leaf e (cc) (omega arith) (omega (arith, k .0))
 
     pub variable-at : getD text i 0 ≡ 0x11
         → (getD text (i + 1) 0 ≤ 63) × Leaf text (expression text nest i) 2 i (Variable (getD text (i + 1) 0)) a n
@@ -215,13 +216,18 @@ module _ (text : List ℕ) (nest i : ℕ) where
     unfolding expression-of pass then′
     plus-at b = two (side (i + 1)) side Plus (as-expression _ (is-plus b))
 
-    pub last-expression : (getD text i 0 ≡ 0x10 → ⊥) → (getD text i 0 ≡ 0x11 → ⊥) → getD text i 0 ≡ 0x12
+    -- what is neither a variable nor a Plus is a constant, of either width
+    pub last-expression : (getD text i 0 ≡ 0x11 → ⊥) → (getD text i 0 ≡ 0x12 → ⊥)
+        → (getD text i 0 ≡ 0x10) ⊎ (getD text i 0 ≡ 0x13)
     unfolding expression-of decline
-    last-expression n0 n1 = by (eqb (getD text i 0) 0x12) refl
+    last-expression n1 n2 = by (eqb (getD text i 0) 0x10) refl (eqb (getD text i 0) 0x13) refl
       where
-        by : (t : Bool) → eqb (getD text i 0) 0x12 ≡ t → getD text i 0 ≡ 0x12
-        by true t = eqb-true _ 0x12 t
-        by false t = absurd (no-end (as-expression _ (is-no-expression n0 n1 (eqb-false _ 0x12 t))))
+        by : (s : Bool) → eqb (getD text i 0) 0x10 ≡ s → (t : Bool) → eqb (getD text i 0) 0x13 ≡ t
+            → (getD text i 0 ≡ 0x10) ⊎ (getD text i 0 ≡ 0x13)
+        by true s t e = inl (eqb-true _ 0x10 s)
+        by false s true e = inr (eqb-true _ 0x13 e)
+        by false s false e =
+            absurd (no-end (as-expression _ (is-no-expression (eqb-false _ 0x10 s) n1 n2 (eqb-false _ 0x13 e))))
 
   -- ---- Conditions
   module _ {a : Condition} {n : ℕ} (e : condition text nest i ≡ ok a n) where

@@ -8,9 +8,10 @@ use mathlib.Core.List.{List, [], _∷_, _++_, append-nil}
 use lib.ListN.{length, getD, drop, length-drop}
 use lib.Seq.{drop-cons, drop-length}
 use lib.IntN.{ℤ}
-use mir.Syntax.{w32}
+use mir.Syntax.{w8, w32}
 use mir.Val.{SFits}
-use Rattle.word.specs.Numbers.{bytes-of}
+use Rattle.word.specs.Numbers.{bytes-of, byte-of}
+use Rattle.text.specs.Syntax.{Width, four-bytes, one-byte}
 use Rattle.text.specs.Syntax.{Expression, Condition, Command}
 use Rattle.text.specs.Encoding.{expression-bytes, condition-bytes, command-bytes}
 use Rattle.text.specs.Encoding.{ValidExpression, ValidCondition, Valid}
@@ -80,12 +81,13 @@ conditions = record { bytes = condition-bytes; Valid = ValidCondition; nesting =
 abbrev pub commands : Kind Command
 commands = record { bytes = command-bytes; Valid = Valid; nesting = nesting }
 
--- Operands have no nesting of their own: a byte that is at most `most`, and a constant's four bytes
+-- Operands have no nesting of their own: a byte that is at most `most`, and a constant's bytes, by its width
 abbrev pub operands : ℕ → Kind ℕ
 operands most = record { bytes = λ v. v ∷ []; Valid = λ v. v ≤ most; nesting = λ v. 0 }
 
-abbrev pub numbers : Kind ℤ
-numbers = record { bytes = bytes-of; Valid = SFits w32; nesting = λ z. 0 }
+abbrev pub numbers : Width → Kind ℤ
+numbers four-bytes = record { bytes = bytes-of; Valid = SFits w32; nesting = λ z. 0 }
+numbers one-byte = record { bytes = λ z. byte-of z ∷ []; Valid = SFits w8; nesting = λ z. 0 }
 
 -- Two parts in a row
 abbrev pub pairs : {A B : Type 0} → Kind A → Kind B → Kind (A × B)

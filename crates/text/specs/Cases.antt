@@ -1,10 +1,14 @@
--- The texts of profiles A to K, and what reading gives for them (document 01, "Profiles to hold it to").
+-- The texts of profiles A to K, and what reading gives for them (document 01, "Profiles to hold it to"); texts with
+-- one-byte constants (document 02, W1).
 use mathlib.Core.Path.{_≡_}
 use Prim.Native.Nat.{ℕ}
 use mathlib.Core.List.{List, [], _∷_, _++_, map}
+use lib.IntN.{negsuc}
 use Rattle.base.specs.Answers.{Answer, gives, refused}
 use Rattle.text.specs.Sizes.{sized}
 use Rattle.text.specs.declared.Sizes.{Sizes}
+use Rattle.text.specs.Syntax.{one-byte, Constant, _:=_}
+use Rattle.text.specs.Reading.{read-text}
 use Rattle.text.specs.Calls.{read-call}
 use lib.ListN.{replicate}
 
@@ -126,3 +130,19 @@ pub record FirstFault : Type 0 where
   pub two-three : read-call (0x02 ∷ 0x7f ∷ 0x01 ∷ 0x40 ∷ 0x11 ∷ 0 ∷ []) ≡ refused 2 1
   -- 3, and 5: `01 40 11 00` and a byte left over
   pub three-five : read-call (x64·text ++ (0x00 ∷ [])) ≡ refused 3 1
+
+-- C, 19 bytes, with one-byte constants: 13 bytes
+abbrev pub C·short : List ℕ
+C·short = 0x04 ∷ 0x23 ∷ 0x11 ∷ 0 ∷ 0x13 ∷ 3 ∷ 0x01 ∷ 0 ∷ 0x12 ∷ 0x11 ∷ 0 ∷ 0x13 ∷ 1 ∷ []
+
+-- "Expression byte 13 with one signed byte as its operand."
+pub record OneByteConstants : Type 0 where
+  -- C's record count, D and n
+  pub short-C : read-call C·short ≡ read 8 2 1
+  -- x0 := −128, with its width
+  pub least : read-text (0x01 ∷ 0 ∷ 0x13 ∷ 0x80 ∷ []) ≡ gives (0 := Constant one-byte (negsuc 127))
+  -- 1, as for any operand: `13` with no byte
+  pub no-byte : read-call (0x01 ∷ 0 ∷ 0x13 ∷ []) ≡ refused 1 3
+  -- 2: where a command or a condition is due, `13` begins none
+  pub no-command : read-call (0x13 ∷ []) ≡ refused 2 0
+  pub no-condition : read-call (0x04 ∷ 0x13 ∷ 1 ∷ 0x00 ∷ []) ≡ refused 2 1

@@ -1,20 +1,22 @@
--- A command as the bytes of a text, and the limits of texts (document 01, "Profile text").
+-- A command as the bytes of a text, and the limits of texts (document 01, "Profile text"; document 02, W1).
 use Prim.Native.Nat.{ℕ, suc, _<_, _≤_, max}
-use mathlib.Core.Bool.{Bool, true, false}
 use mathlib.Core.List.{List, [], _∷_, _++_}
 use lib.ListN.{length, getD}
-use mir.Syntax.{w32}
+use mir.Syntax.{w8, w32}
 use mir.Val.{SFits}
 use Rattle.base.specs.Acts.{if_then_else_}
-use Rattle.word.specs.Numbers.{bytes-of}
+use Rattle.word.specs.Numbers.{bytes-of, byte-of}
+use Rattle.text.specs.Syntax.{four-bytes, one-byte}
 use Rattle.text.specs.Syntax.{Expression, Constant, Variable, Plus, Condition, Bc, Not, And, Less, Command}
 use Rattle.text.specs.Syntax.{SKIP, _:=_, _⨾_, IF_THEN_ELSE_, WHILE_DO_}
 
 -- ---- Bytes
 
--- "Expressions: 10 and four bytes, a constant; 11 v, a variable; 12 a a, Plus"
+-- "Expressions: 10 and four bytes, a constant; 11 v, a variable; 12 a a, Plus", and "expression byte 13 with one signed
+-- byte as its operand"
 unfoldable pub expression-bytes : Expression → List ℕ
-expression-bytes (Constant z) = 0x10 ∷ bytes-of z
+expression-bytes (Constant four-bytes z) = 0x10 ∷ bytes-of z
+expression-bytes (Constant one-byte z) = 0x13 ∷ byte-of z ∷ []
 expression-bytes (Variable v) = 0x11 ∷ v ∷ []
 expression-bytes (Plus a b) = 0x12 ∷ (expression-bytes a ++ expression-bytes b)
 
@@ -39,9 +41,10 @@ command-bytes (WHILE b DO c) = 0x04 ∷ (condition-bytes b ++ command-bytes c)
 abbrev pub Bytes : List ℕ → Type 0
 Bytes text = (i : ℕ) → getD text i 0 < 256
 
--- "v one byte 0 to 63. Constants are signed 32-bit"
+-- "v one byte 0 to 63. Constants are signed 32-bit", and those of one signed byte from −128 to 127
 unfoldable pub ValidExpression : Expression → Type 0
-ValidExpression (Constant z) = SFits w32 z
+ValidExpression (Constant four-bytes z) = SFits w32 z
+ValidExpression (Constant one-byte z) = SFits w8 z
 ValidExpression (Variable v) = v < 64
 ValidExpression (Plus a b) = ValidExpression a × ValidExpression b
 
@@ -60,7 +63,7 @@ Valid (WHILE b DO c) = ValidCondition b × Valid c
 
 -- "The root has nesting 1 and each part one more than its parent": the most nesting in a command
 unfoldable pub expression-nesting : Expression → ℕ
-expression-nesting (Constant z) = 1
+expression-nesting (Constant w z) = 1
 expression-nesting (Variable v) = 1
 expression-nesting (Plus a b) = suc (max (expression-nesting a) (expression-nesting b))
 

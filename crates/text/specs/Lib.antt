@@ -4,5 +4,6 @@ pub mod Encoding
 pub mod Sizes
 pub mod Calls
 pub mod Claims
+pub mod Respelling
 pub mod Cases
 pub mod Code

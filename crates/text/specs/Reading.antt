@@ -1,13 +1,14 @@
--- Reading a profile text (document 01, "Profile text" and "When a call declines").
+-- Reading a profile text (document 01, "Profile text" and "When a call declines"; document 02, W1).
 -- "Reading goes left to right; at a construct 1, 4, 2, then its operand 1, 3; at the end 5."
 use Prim.Native.Nat.{ℕ, zero, suc, _+_}
 use mathlib.Core.List.{List}
-use lib.Dec.{ltb, leb, eqb}
+use lib.Dec.{leb, eqb}
 use lib.IntN.{ℤ}
 use lib.ListN.{length, getD}
 use Rattle.base.specs.Acts.{Outcome, ok, ended, Act, _>>=_, _>>_, give, if_then_else_}
 use Rattle.base.specs.Answers.{Answer, gives, refused, Refusal, refusal, unless_refuse_at_else_}
-use Rattle.word.specs.Numbers.{number-at}
+use Rattle.word.specs.Numbers.{number-at, byte-number}
+use Rattle.text.specs.Syntax.{Width, four-bytes, one-byte, bytes-in}
 use Rattle.text.specs.Syntax.{Expression, Constant, Variable, Plus, Condition, Bc, Not, And, Less, Command}
 use Rattle.text.specs.Syntax.{SKIP, _:=_, _⨾_, IF_THEN_ELSE_, WHILE_DO_}
 
@@ -18,13 +19,15 @@ Reader A = Act ℕ Refusal A
 -- ---- What a byte begins
 
 pub data ExpressionByte : Type 0 where
-  constant variable plus no-expression : ExpressionByte
+  constant : Width → ExpressionByte
+  variable plus no-expression : ExpressionByte
 
 unfoldable pub expression-byte : ℕ → ExpressionByte
 expression-byte b =
-    if eqb b 0x10 then constant else
+    if eqb b 0x10 then constant four-bytes else
     if eqb b 0x11 then variable else
-    if eqb b 0x12 then plus else no-expression
+    if eqb b 0x12 then plus else
+    if eqb b 0x13 then constant one-byte else no-expression
 
 pub data ConditionByte : Type 0 where
   truth negation conjunction comparison no-condition : ConditionByte
@@ -49,6 +52,11 @@ command-byte b =
 
 -- ---- Reading at a position of a text
 
+-- The number that a constant's operand is, from a position on
+abbrev pub operand-number : Width → List ℕ → ℕ → ℤ
+operand-number four-bytes text i = number-at text i
+operand-number one-byte text i = byte-number (getD text i 0)
+
 module _ (text : List ℕ) where
   -- a refusal whose place is the position
   unfoldable pub decline : {A : Type 0} → ℕ → Reader A
@@ -70,16 +78,17 @@ module _ (text : List ℕ) where
   unfoldable pub operand : ℕ → Reader ℕ
   operand most = do there 1; b ← due; if leb b most then (do pass 1; give b) else decline 3
 
-  -- a constant's four bytes
-  unfoldable pub four : Reader ℤ
-  four i = ok (number-at text i) (i + 4)
+  -- a constant's operand, of its width
+  unfoldable pub number-due : Width → Reader ℤ
+  number-due w i = ok (operand-number w text i) (i + bytes-in w)
 
-  unfoldable pub number : Reader ℤ
-  number = do there 4; four
+  unfoldable pub number : Width → Reader ℤ
+  number w = do there (bytes-in w); number-due w
 
-  -- "10 and four bytes, a constant; 11 v, a variable; 12 a a, Plus": an expression whose parts are read by `a`
+  -- "10 and four bytes, a constant; 11 v, a variable; 12 a a, Plus", and "13 with one signed byte as its operand": an
+  -- expression whose parts are read by `a`. "A constant's reading now reports its width as well"
   unfoldable pub expression-of : Reader Expression → ExpressionByte → Reader Expression
-  expression-of a constant = do pass 1; z ← number; give (Constant z)
+  expression-of a (constant w) = do pass 1; z ← number w; give (Constant w z)
   expression-of a variable = do pass 1; v ← operand 63; give (Variable v)
   expression-of a plus = do pass 1; x ← a; y ← a; give (Plus x y)
   expression-of a no-expression = decline 2

@@ -1,6 +1,6 @@
 -- What reading tells of a text: its record count, its depth bound D and its n (document 01, "Records").
 use Prim.Native.Nat.{ℕ, zero, suc, _+_, max}
-use mathlib.Core.Bool.{Bool, true, false, not, _||_, Bool·beq}
+use mathlib.Core.Bool.{Bool, false, not, _||_, Bool·beq}
 use lib.Dec.{eqb}
 use Rattle.base.specs.Acts.{if_then_else_}
 use Rattle.text.specs.Syntax.{Expression, Constant, Variable, Plus, Condition, Bc, Not, And, Less, Command}
@@ -10,7 +10,7 @@ use Rattle.text.specs.declared.Sizes.{Sizes}
 -- ---- Record count: as many records as compilation gives, worked out from the text alone
 
 unfoldable pub expression-records : Expression → ℕ
-expression-records (Constant z) = 1
+expression-records (Constant w z) = 1
 expression-records (Variable v) = 1
 expression-records (Plus a b) = expression-records a + expression-records b + 1
 
@@ -32,7 +32,7 @@ records (WHILE b DO c) = condition-records b false + records c + 1
 -- else the largest of the parts"
 
 unfoldable pub expression-depth : Expression → ℕ
-expression-depth (Constant z) = 1
+expression-depth (Constant w z) = 1
 expression-depth (Variable v) = 1
 expression-depth (Plus a b) = max (expression-depth a) (suc (expression-depth b))
 
@@ -52,7 +52,7 @@ depth (WHILE b DO c) = max (condition-depth b) (depth c)
 -- ---- Named variables: does a text name w?
 
 unfoldable pub expression-names : Expression → ℕ → Bool
-expression-names (Constant z) w = false
+expression-names (Constant width z) w = false
 expression-names (Variable v) w = eqb v w
 expression-names (Plus a b) w = expression-names a w || expression-names b w
 

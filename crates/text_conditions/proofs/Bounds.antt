@@ -45,7 +45,7 @@ small-together n l (Refused number place) r′ x y = tt
 
 pub expression-lean : (a : Expression) → expression-depth a ≤ expression-records a
 unfolding expression-depth expression-records
-expression-lean (Constant z) = omega arith
+expression-lean (Constant w z) = omega arith
 expression-lean (Variable v) = omega arith
 expression-lean (Plus a b) = omega (arith, expression-lean a, expression-lean b)
 

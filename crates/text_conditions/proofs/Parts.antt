@@ -12,8 +12,13 @@ use lib.Seq.{getD-set-same, getD-set-other}
 use borrow.Author.Tests.{eqb-true, eqb-false}
 use Rattle.base.specs.Acts.{Outcome, ok, ended, then′, _>>=_, _>>_, give, if_then_else_}
 use Rattle.base.specs.Answers.{Refusal, refusal}
-use Rattle.text.specs.Reading.{Reader, pass}
-use Rattle.text_conditions.specs.Code.{Sized, Marked, Told, Answered, Given, together}
+use Rattle.text.specs.Syntax.{Width, Constant}
+use Rattle.text.specs.Reading.{Reader, expression-byte, pass, number, expression-of}
+use Rattle.text.specs.Sizes.{expression-records, expression-depth, expression-names}
+use Rattle.text_shape.specs.Shape.{width-of}
+use Rattle.text_shape.proofs.Constants.{Begins, is-constant}
+use Rattle.text_conditions.specs.Code.{Sized, expressions, numbers, Marked, Told, Answered, Given}
+use Rattle.text_conditions.specs.Code.{expression-parts, together}
 use Rattle.text_conditions.specs.declared.PartReading.{PartReading}
 use Rattle.text_conditions.specs.declared.PartReading.the-variants.{Read, Refused}
 
@@ -179,3 +184,17 @@ module _ (text : List ℕ) {C : Type 0} (W : Sized C) where
   second-ends K Q x y f i m m′ m″ l {n} h e h′ e′ =
       let g = got K (x (i + 1)) h e in
       rw (g .read) (ends Q W (y n) (f (g .part)) m′ m″ m l h′ e′)
+
+-- ---- Constants
+
+constant-alike : (width : Width) → Alike numbers expressions (Constant width)
+unfolding expression-records expression-depth expression-names
+constant-alike width = record { records = λ z. refl; depth = λ z. refl; names = λ z w. refl }
+
+-- An answer to a constant's operand is one to the constant.
+pub constant-told : (text : List ℕ) (nest i : ℕ) (r : PartReading) (m : List ℕ) → Begins (getD text i 0)
+    → Answered numbers (number text (width-of (getD text i 0)) (i + 1)) r m m
+    → Answered expressions (expression-parts text nest (expression-byte (getD text i 0)) i) r m m
+unfolding expression-of
+constant-told text nest i r m b h =
+    rw (is-constant b) (one text expressions numbers (Constant _) (number text _) i r m m (constant-alike _) h)

@@ -7,9 +7,10 @@ use native.Mathlib.Omega.{arith}
 use mathlib.Core.List.{List}
 use lib.ListN.{length, getD}
 use Rattle.text_shape.specs.Shape.{constant-width}
+use Rattle.text_shape.proofs.Constants.{Begins}
 use Rattle.text_ends.specs.Ends.{width, due-after, Row, none}
 use Rattle.text_ends.specs.Ends.{PartEnds}
-use Rattle.text_ends.proofs.Passing.{opens, opened, in-a-row, pair-width, pair-due}
+use Rattle.text_ends.proofs.Passing.{opens, constant-opens, opened, in-a-row, pair-width, pair-due}
 
 module _ {text : List ℕ} where
   -- where a part stands, the position is inside the text
@@ -46,12 +47,12 @@ module _ {text : List ℕ} where
       unfolding width due-after
       choice-end e f g l n = opens text 0x03 i e (omega arith) (three f g l n)
 
-      pub constant-end : {w r : ℕ} → getD text i 0 ≡ 0x10 → w ≡ constant-width (getD text i 0) → r ≡ i + 1 + w
+      pub constant-end : {w r : ℕ} → Begins (getD text i 0) → w ≡ constant-width (getD text i 0) → r ≡ i + 1 + w
           → i + 1 + w ≤ length text → Row text i 1 r
-      unfolding width due-after
-      constant-end {w} {r} e f g l =
-          let end : i + (1 + constant-width 0x10) ≡ r = omega (arith, ap constant-width e) in
-          opens text 0x10 i e (omega arith) (subst (λ (j : ℕ). Row text (i + (1 + constant-width 0x10)) 0 j) end none)
+      constant-end {w} {r} b f g l =
+          let last = i + (1 + constant-width (getD text i 0)) in
+          let end : last ≡ r = omega arith in
+          constant-opens text i b (omega arith) (subst (λ (j : ℕ). Row text last 0 j) end none)
 
       pub leaf-end : {r : ℕ} → (getD text i 0 ≡ 0x11) ⊎ (getD text i 0 ≡ 0x20) → r ≡ i + 2 → i + 2 ≤ length text
           → Row text i 1 r
@@ -64,7 +65,7 @@ module _ {text : List ℕ} where
       not-end e f n = opens text 0x21 i e (omega arith) (one f n)
 
       pub pair-end : {q r : ℕ} → (getD text i 0 ≡ 0x00 → ⊥) → (getD text i 0 ≡ 0x01 → ⊥) → (getD text i 0 ≡ 0x03 → ⊥)
-          → (getD text i 0 ≡ 0x10 → ⊥) → (getD text i 0 ≡ 0x11 → ⊥) → (getD text i 0 ≡ 0x20 → ⊥)
+          → (Begins (getD text i 0) → ⊥) → (getD text i 0 ≡ 0x11 → ⊥) → (getD text i 0 ≡ 0x20 → ⊥)
           → (getD text i 0 ≡ 0x21 → ⊥) → q ≡ getD ends (i + 1) 0 → r ≡ getD ends q 0 → (r ≡ 0 → ⊥) → Row text i 1 r
       pair-end n0 n1 n2 n3 n4 n5 n6 f g n =
           let b = getD text i 0 in

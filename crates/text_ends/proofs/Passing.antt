@@ -14,10 +14,24 @@ use Rattle.base.specs.Acts.{Outcome, ok, if_then_else_}
 use Rattle.text.specs.Syntax.{Condition, Command}
 use Rattle.base.specs.Answers.{Refusal}
 use Rattle.text.specs.Reading.{Reader, expression, condition, command}
-use Rattle.text.proofs.Opened.{expression-opened, constant-at, variable-at, plus-at}
+use Rattle.text.proofs.Opened.{expression-opened, variable-at, plus-at}
 use Rattle.text.proofs.Opened.{last-expression, condition-opened, bc-at, not-at, and-at, less-at, last-condition}
 use Rattle.text.proofs.Opened.{command-opened, skip-at, assignment-at, sequence-at, choice-at, while-at, last-command}
+use Rattle.text_shape.specs.Shape.{begins-constant, constant-width}
+use Rattle.text_shape.proofs.Constants.{Begins, begins-none, constant-read}
 use Rattle.text_ends.specs.Ends.{width, due-after, Row, none, more}
+
+-- ---- A constant's first byte: its own bytes, and no part
+
+pub constant-wide : {b : ℕ} → Begins b → width b ≡ 1 + constant-width b
+unfolding width
+constant-wide (inl e) = rw e
+constant-wide (inr e) = rw e
+
+pub constant-due : {b : ℕ} → Begins b → (n : ℕ) → due-after b n ≡ n
+unfolding due-after
+constant-due (inl e) n = rw e
+constant-due (inr e) n = rw e
 
 -- ---- A part that was read is one part of a row
 
@@ -35,6 +49,13 @@ module _ (text : List ℕ) where
       more (subst (λ b. i + width b ≤ length text) (sym e) h)
       (subst (λ b. Row text (i + width b) (due-after b n) j) (sym e) r)
 
+  pub constant-opens : (i : ℕ) {n j : ℕ} → Begins (getD text i 0)
+      → i + (1 + constant-width (getD text i 0)) ≤ length text
+      → Row text (i + (1 + constant-width (getD text i 0))) n j → Row text i (suc n) j
+  constant-opens i {n} {j} b h r =
+      let w = constant-wide b in
+      more {i = i} {n = n} {j = j} (rw w h) (rw (w, constant-due b n) r)
+
   -- a row that begins at n, or at m
   moved : {A : Type 0} {o : Outcome ℕ Refusal A} {a b : A} {n m k j : ℕ} → o ≡ ok a n → o ≡ ok b m → Row text n k j
       → Row text m k j
@@ -42,22 +63,22 @@ module _ (text : List ℕ) where
 
   expression-first : (nest : ℕ) → Before (expression text (nest - 1)) → Before (expression text nest)
   unfolding width due-after
-  expression-first nest side i a n k j e r = by (eqb (getD text i 0) 0x10) refl (eqb (getD text i 0) 0x11) refl
+  expression-first nest side i a n k j e r = by (eqb (getD text i 0) 0x11) refl (eqb (getD text i 0) 0x12) refl
     where
-      by : (s : Bool) → eqb (getD text i 0) 0x10 ≡ s → (t : Bool) → eqb (getD text i 0) 0x11 ≡ t → Row text i (suc k) j
+      by : (s : Bool) → eqb (getD text i 0) 0x11 ≡ s → (t : Bool) → eqb (getD text i 0) 0x12 ≡ t → Row text i (suc k) j
       by true s t g =
-          let b = eqb-true _ 0x10 s in
-          let p = constant-at text nest i e b in
-          opens 0x10 i b (p .inside) (moved e (p .read) r)
-      by false s true g =
-          let b = eqb-true _ 0x11 g in
+          let b = eqb-true _ 0x11 s in
           let p = variable-at text nest i e b .1 in
           opens 0x11 i b (p .inside) (moved e (p .read) r)
-      by false s false g =
-          let b = last-expression text nest i e (eqb-false _ 0x10 s) (eqb-false _ 0x11 g) in
+      by false s true g =
+          let b = eqb-true _ 0x12 g in
           let t = plus-at text nest i e b in
           let w = expression-opened text nest i e .inside in
           opens 0x12 i b (omega arith) (side _ _ _ _ _ (t .first) (side _ _ _ _ _ (t .second) r))
+      by false s false g =
+          let b = last-expression text nest i e (eqb-false _ 0x11 s) (eqb-false _ 0x12 g) in
+          let p = constant-read text nest i e b in
+          constant-opens i b (p .inside) (moved e (p .read) r)
 
   expression-row : (nest : ℕ) → Before (expression text nest)
   expression-row zero = λ i a n k j e r. absurd (let w = expression-opened text 0 i e .nested in omega arith)
@@ -142,7 +163,7 @@ module _ (text : List ℕ) where
   due-sum : (b n m : ℕ) → due-after b n + m ≡ due-after b (n + m)
   unfolding due-after
   due-sum b n m =
-      by (eqb b 0x00) (eqb b 0x01) (eqb b 0x03) (eqb b 0x10) (eqb b 0x11) (eqb b 0x20) (eqb b 0x21)
+      by (eqb b 0x00) (eqb b 0x01) (eqb b 0x03) (begins-constant b) (eqb b 0x11) (eqb b 0x20) (eqb b 0x21)
     where
       by : (s t u v w x y : Bool)
           → (if s then n else if t then suc n else if u then suc (suc (suc n)) else if v then n else if w then n else
@@ -195,14 +216,14 @@ least false m k p q = q
 wide : (b : ℕ) → 1 ≤ width b
 unfolding width
 wide b =
-    least (eqb b 0x01) 2 _ (omega arith) (least (eqb b 0x10) 5 _ (omega arith)
+    least (eqb b 0x01) 2 _ (omega arith) (least (begins-constant b) (1 + constant-width b) _ (omega arith)
     (least (eqb b 0x11) 2 _ (omega arith) (least (eqb b 0x20) 2 1 (omega arith) (omega arith))))
 
 no-fewer : (b n : ℕ) → n ≤ due-after b n
 unfolding due-after
 no-fewer b n =
     least (eqb b 0x00) n _ (omega arith) (least (eqb b 0x01) (suc n) _ (omega arith)
-    (least (eqb b 0x03) (suc (suc (suc n))) _ (omega arith) (least (eqb b 0x10) n _ (omega arith)
+    (least (eqb b 0x03) (suc (suc (suc n))) _ (omega arith) (least (begins-constant b) n _ (omega arith)
     (least (eqb b 0x11) n _ (omega arith) (least (eqb b 0x20) n _ (omega arith)
     (least (eqb b 0x21) (suc n) (suc (suc n)) (omega arith) (omega arith)))))))
 
@@ -216,11 +237,11 @@ room {text} h (more {i = i} {n = n} g r) =
     (omega arith, q)
 
 -- A byte that is none of the others': one byte, and two parts
-module _ (b : ℕ) (n0 : b ≡ 0x00 → ⊥) (n1 : b ≡ 0x01 → ⊥) (n2 : b ≡ 0x03 → ⊥) (n3 : b ≡ 0x10 → ⊥) (n4 : b ≡ 0x11 → ⊥)
+module _ (b : ℕ) (n0 : b ≡ 0x00 → ⊥) (n1 : b ≡ 0x01 → ⊥) (n2 : b ≡ 0x03 → ⊥) (n3 : Begins b → ⊥) (n4 : b ≡ 0x11 → ⊥)
     (n5 : b ≡ 0x20 → ⊥) (n6 : b ≡ 0x21 → ⊥) where
   pub pair-width : width b ≡ 1
   unfolding width
-  pair-width = simp (ne-eqb b 0x01 n1, ne-eqb b 0x10 n3, ne-eqb b 0x11 n4, ne-eqb b 0x20 n5)
+  pair-width = simp (ne-eqb b 0x01 n1, begins-none n3, ne-eqb b 0x11 n4, ne-eqb b 0x20 n5)
 
   pub pair-due : (n : ℕ) → due-after b n ≡ suc (suc n)
   unfolding due-after
@@ -229,7 +250,7 @@ module _ (b : ℕ) (n0 : b ≡ 0x00 → ⊥) (n1 : b ≡ 0x01 → ⊥) (n2 : b �
         ne-eqb b 0x00 n0,
         ne-eqb b 0x01 n1,
         ne-eqb b 0x03 n2,
-        ne-eqb b 0x10 n3,
+        begins-none n3,
         ne-eqb b 0x11 n4,
         ne-eqb b 0x20 n5,
         ne-eqb b 0x21 n6,
@@ -265,6 +286,10 @@ module _ {text : List ℕ} {start i n : ℕ} (p : Passing text start i n) (h : n
       let (a, z) = room w r in
       record { inside = omega arith; goes-on = record { end = p .end; from = p .from; here = r } }
 
+  -- a constant's byte: its own bytes, and no part
+  pub turn-constant : Begins (getD text i 0) → Turn text start i (1 + constant-width (getD text i 0)) (n - 1)
+  turn-constant b = rw (constant-wide b) at (turn (getD text i 0) refl (n - 1) (constant-due b (n - 1)))
+
   -- a variable's byte or Bc's: two bytes, and no part
   pub turn-leaf : (getD text i 0 ≡ 0x11) ⊎ (getD text i 0 ≡ 0x20) → Turn text start i 2 (n - 1)
   unfolding width due-after
@@ -273,7 +298,7 @@ module _ {text : List ℕ} {start i n : ℕ} (p : Passing text start i n) (h : n
 
   -- a byte that is none of the others': one byte, and two parts
   pub turn-rest : (getD text i 0 ≡ 0x00 → ⊥) → (getD text i 0 ≡ 0x01 → ⊥) → (getD text i 0 ≡ 0x03 → ⊥)
-      → (getD text i 0 ≡ 0x10 → ⊥) → (getD text i 0 ≡ 0x11 → ⊥) → (getD text i 0 ≡ 0x20 → ⊥)
+      → (Begins (getD text i 0) → ⊥) → (getD text i 0 ≡ 0x11 → ⊥) → (getD text i 0 ≡ 0x20 → ⊥)
       → (getD text i 0 ≡ 0x21 → ⊥) → (due : ℕ) → suc (suc (n - 1)) ≡ due → Turn text start i 1 due
   turn-rest n0 n1 n2 n3 n4 n5 n6 due f =
       let b = getD text i 0 in

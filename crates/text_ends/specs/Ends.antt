@@ -4,7 +4,7 @@ use mathlib.Core.List.{List, [], _∷_}
 use lib.Dec.{eqb, ltb}
 use lib.ListN.{length, getD, set}
 use Rattle.base.specs.Acts.{if_then_else_}
-use Rattle.text_shape.specs.Shape.{constant-width}
+use Rattle.text_shape.specs.Shape.{begins-constant, constant-width}
 use Rattle.text_shape.specs.Caches.{Right}
 
 -- ---- Where a part ends
@@ -13,7 +13,7 @@ use Rattle.text_shape.specs.Caches.{Right}
 unfoldable pub width : ℕ → ℕ
 width b =
     if eqb b 0x01 then 2 else
-    if eqb b 0x10 then 1 + constant-width b else
+    if begins-constant b then 1 + constant-width b else
     if eqb b 0x11 then 2 else
     if eqb b 0x20 then 2 else 1
 
@@ -23,7 +23,7 @@ due-after b n =
     if eqb b 0x00 then n else
     if eqb b 0x01 then suc n else
     if eqb b 0x03 then suc (suc (suc n)) else
-    if eqb b 0x10 then n else
+    if begins-constant b then n else
     if eqb b 0x11 then n else
     if eqb b 0x20 then n else
     if eqb b 0x21 then suc n else suc (suc n)

@@ -8,6 +8,7 @@ use text_shape::BC;
 use text_shape::CONSTANT;
 use text_shape::IF;
 use text_shape::NOT;
+use text_shape::ONE_BYTE_CONSTANT;
 use text_shape::SKIP;
 use text_shape::VARIABLE;
 use text_shape::WHILE;
@@ -67,7 +68,7 @@ fn scan_end(text: &[u8], start: usize) -> usize
                 at += 1;
                 due += 2;
             }
-            CONSTANT => {
+            CONSTANT | ONE_BYTE_CONSTANT => {
                 at += 1 + constant_width(op);
                 due -= 1;
             }
@@ -122,7 +123,7 @@ fn end_at(text: &[u8], at: usize, ends: &[u16]) -> usize
         SKIP => at + 1,
         ASSIGN => recall(ends, at + 2),
         IF => recall(ends, recall(ends, recall(ends, at + 1))),
-        CONSTANT => inside(text, at + 1 + constant_width(op)),
+        CONSTANT | ONE_BYTE_CONSTANT => inside(text, at + 1 + constant_width(op)),
         VARIABLE | BC => inside(text, at + 2),
         NOT => recall(ends, at + 1),
         // those of two parts

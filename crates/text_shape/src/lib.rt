@@ -23,6 +23,8 @@ pub const VARIABLE: u8 = 0x11;
 
 pub const PLUS: u8 = 0x12;
 
+pub const ONE_BYTE_CONSTANT: u8 = 0x13;
+
 pub const BC: u8 = 0x20;
 
 pub const NOT: u8 = 0x21;
@@ -43,7 +45,7 @@ pub struct Constant {
 pub fn constant_width(byte: u8) -> usize
     ensures { λ r. ⌜ r ≡ constant-width byte ⌝ }
 {
-    4
+    if byte == ONE_BYTE_CONSTANT { 1 } else { 4 }
 }
 
 // The constant whose first byte stands at a position.
@@ -51,8 +53,15 @@ pub fn constant_at(text: &[u8], at: usize) -> Constant
     requires { ⌜ at + (1 + constant-width (getD (now text) at 0)) ≤ length (now text) ⌝ }
     ensures { λ r. ⌜ r ≡ constant-at (now (text .entry)) at ⌝ }
 {
+    let width = constant_width(text[at]);
+    if width == 1 {
+        return Constant {
+            value: word::byte_number(text[at + 1]),
+            width,
+        };
+    }
     Constant {
         value: word::number_at(text, at + 1),
-        width: constant_width(text[at]),
+        width,
     }
 }

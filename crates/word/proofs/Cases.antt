@@ -1,8 +1,13 @@
--- The rule for sums at its limits, by computation (Cases: SumLimits).
+-- The rule for sums and signed bytes at their limits, by computation (Cases: SumLimits, ByteLimits).
 use mathlib.Core.Path.{refl}
 use Rattle.word.specs.Sums.{limited, sum32}
-use Rattle.word.specs.Cases.{SumLimits}
+use Rattle.word.specs.Numbers.{byte-number}
+use Rattle.word.specs.Cases.{SumLimits, ByteLimits}
 
 pub sum-limits : SumLimits
 unfolding sum32 limited
 sum-limits = record { greatest-fits = refl; above-greatest = refl; least-fits = refl; below-least = refl }
+
+pub byte-limits : ByteLimits
+unfolding byte-number
+byte-limits = record { greatest-byte = refl; least-byte = refl; minus-one = refl }

@@ -6,15 +6,15 @@ use Prim.Native.Nat.{ℕ, _/_, _%_}
 use native.Mathlib.Omega.{arith}
 use lib.IntN.{ℤ, _+ℤ_}
 use lib.Signed.{ltZ}
-use mir.Syntax.{w32}
+use mir.Syntax.{w8, w32}
 use mir.Val.{toZ, ofZ}
 use mir.Facts.{toZ-ofZ, ofZ-toZ, fits-ofZ, sfits-toZ}
 use Rattle.base.specs.Acts.{if_then_else_}
 use Rattle.word.specs.declared.Sum.the-variants.{Fits, Out}
 use Rattle.word.specs.Sums.{least, greatest, limited, sum32}
-use Rattle.word.specs.Numbers.{joined, number-of, number-at, split, bits-of, bytes-of}
+use Rattle.word.specs.Numbers.{joined, number-of, number-at, split, bits-of, bytes-of, byte-number, byte-of}
 use Rattle.word.specs.Targets.{within, target}
-use Rattle.word.specs.Claims.{Exact, NumberOfBytes, BytesOfNumber, NumbersFit, Jumps}
+use Rattle.word.specs.Claims.{Exact, NumberOfBytes, BytesOfNumber, NumbersFit, SignedBytes, Jumps}
 use Rattle.word.proofs.Laws.{joined-again}
 
 -- A number within two tests is what it was before them.
@@ -55,6 +55,15 @@ bytes-of-number b0 b1 b2 b3 h0 h1 h2 h3 =
 pub numbers-fit : NumbersFit
 unfolding number-of
 numbers-fit b0 b1 b2 b3 h0 h1 h2 h3 = sfits-toZ {w = w32} {n = joined b0 b1 b2 b3} (record { fits = omega arith })
+
+-- One byte is its number's bits.
+pub signed-bytes : SignedBytes
+unfolding byte-number byte-of
+signed-bytes = record {
+  number-again = λ z f. toZ-ofZ f;
+  byte-again = λ b h. ofZ-toZ {w = w8} (record { fits = h });
+  fits = λ b h. sfits-toZ {w = w8} {n = b} (record { fits = h });
+}
 
 -- Profile C's jumps, by computation.
 pub jumps : Jumps

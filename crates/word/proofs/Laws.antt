@@ -9,7 +9,7 @@ use lib.Dec.{T, ltb}
 use lib.IntN.{ℤ, pos, negsuc, subℕ, _+ℤ_, _-ℤ_, natAbs}
 use lib.Signed.{mag, ltZ, nonNeg}
 use mir.Syntax.{Width, w32, w64}
-use mir.Val.{Fits, SFits, toZ, ofZ, hbits, sel}
+use mir.Val.{Fits, SFits, toZ, ofZ, bits, hbits, sel}
 use mir.Facts.{sfits-widen, toZ-ofZ, toZ-pos}
 use mir.ValLaws.{half-full}
 use borrow.Author.Tests.{ltb-true, ltb-false, le-ltb, le-leb, lt-leb}
@@ -113,15 +113,16 @@ pub bits-below-zero : (z : ℤ) → ltZ z (pos 0) ≡ true → 4294967295 - natA
 bits-below-zero (pos n) h = absurd (omega (arith, ltb-true n 0 h))
 bits-below-zero (negsuc n) h = omega arith
 
--- Bits of the upper half are a number below 0.
-pub upper-half : (u : ℕ) → 2147483648 ≤ u → u < 4294967296 → opposite (toZ w32 (4294967295 - u)) ≡ toZ w32 u
-upper-half u h k =
-    ap opposite (toZ-pos w32 {n = 4294967295 - u} (omega arith))
+-- Bits of the upper half, of any width, are a number below 0: the opposite of what they leave of all ones.
+pub upper-half : (w : Width) (ones u : ℕ) → suc ones ≡ 2 ^ bits w → 2 ^ hbits w ≤ u → ones - u < 2147483648
+    → opposite (toZ w32 (ones - u)) ≡ toZ w u
+upper-half w ones u all h k =
+    ap opposite (toZ-pos w32 {n = ones - u} k)
     ∙ ap negsuc same
-    ∙ sym (ap (λ (t : Bool). sel t (pos u) (negsuc (4294967296 - suc u))) (le-ltb u 2147483648 h))
+    ∙ sym (ap (λ (t : Bool). sel t (pos u) (negsuc (2 ^ bits w - suc u))) (le-ltb u (2 ^ hbits w) h))
   where
-    same : 4294967295 - u ≡ 4294967296 - suc u
-    same = omega arith
+    same : ones - u ≡ 2 ^ bits w - suc u
+    same = rw (← all) (omega arith)
 
 -- The four bytes of 32 bits, joined, are these bits.
 pub joined-again : (u : ℕ) → u < 4294967296

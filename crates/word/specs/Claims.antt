@@ -3,10 +3,10 @@ use mathlib.Core.Path.{_≡_}
 use Prim.Native.Nat.{ℕ, _<_}
 use mathlib.Core.List.{[], _∷_}
 use lib.IntN.{ℤ, pos, negsuc, _+ℤ_}
-use mir.Syntax.{w32}
+use mir.Syntax.{w8, w32}
 use mir.Val.{SFits}
 use Rattle.word.specs.Sums.{SumRule}
-use Rattle.word.specs.Numbers.{number-of, number-at, bytes-of}
+use Rattle.word.specs.Numbers.{number-of, number-at, bytes-of, byte-number, byte-of}
 use Rattle.word.specs.Targets.{target}
 use Rattle.word.specs.declared.Sum.the-variants.{Fits}
 use Rattle.word.specs.declared.Target.the-variants.{To}
@@ -27,6 +27,15 @@ BytesOfNumber = (b0 b1 b2 b3 : ℕ) → b0 < 256 → b1 < 256 → b2 < 256 → b
 -- Four bytes give a 32-bit number.
 abbrev pub NumbersFit : Type 0
 NumbersFit = (b0 b1 b2 b3 : ℕ) → b0 < 256 → b1 < 256 → b2 < 256 → b3 < 256 → SFits w32 (number-of b0 b1 b2 b3)
+
+-- One byte and numbers from −128 to 127, the same three. (SFits w8 z: z is from −128 to 127.)
+pub record SignedBytes : Type 0 where
+  -- such a number's byte gives that number
+  pub number-again : (z : ℤ) → SFits w8 z → byte-number (byte-of z) ≡ z
+  -- a byte gives a number that has this byte
+  pub byte-again : (b : ℕ) → b < 256 → byte-of (byte-number b) ≡ b
+  -- a byte gives such a number
+  pub fits : (b : ℕ) → b < 256 → SFits w8 (byte-number b)
 
 -- Profile C's two jumps, in code of 8 records: JMPGE 5 at position 2 leads to the end position, JMP −8 at position 7 to
 -- the first record.

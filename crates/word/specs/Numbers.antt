@@ -1,10 +1,10 @@
 -- Signed 32-bit numbers as four bytes (document 01, "Profile text" and "Records"):
--- "signed 32-bit, two's complement, lowest byte first".
+-- "signed 32-bit, two's complement, lowest byte first"; and small ones as "one signed byte" (document 02, W1).
 use Prim.Native.Nat.{ℕ, _+_, _*_, _/_, _%_}
 use mathlib.Core.List.{List, [], _∷_}
 use lib.IntN.{ℤ}
 use lib.ListN.{getD}
-use mir.Syntax.{w32}
+use mir.Syntax.{w8, w32}
 use mir.Val.{toZ, ofZ}
 
 -- Four bytes, lowest first, as an unsigned number
@@ -30,3 +30,11 @@ bits-of z = ofZ w32 z
 -- The four bytes of a number
 unfoldable pub bytes-of : ℤ → List ℕ
 bytes-of z = split (bits-of z)
+
+-- The number of one signed byte: toZ w8 b is b below 128, else b − 256
+unfoldable pub byte-number : ℕ → ℤ
+byte-number b = toZ w8 b
+
+-- The byte of a number from −128 to 127: ofZ w8 z is z from 0 on, else z + 256
+unfoldable pub byte-of : ℤ → ℕ
+byte-of z = ofZ w8 z

@@ -1,4 +1,4 @@
-// Signed 32-bit numbers: the sum, the order, four bytes to a number and back, a jump's target.
+// Signed 32-bit numbers: the sum, the order, four bytes or one to a number, a number to four bytes, a jump's target.
 // Every operation on signed numbers that needs a proof stands here.
 ghost use mathlib.Core.Path.{_≡_};
 ghost use Prim.Native.Nat.{_+_, _<_, _≤_};
@@ -6,7 +6,7 @@ ghost use lib.ListN.{length};
 ghost use lib.IntN.{negsuc, _+ℤ_, _-ℤ_};
 ghost use lib.Signed.{ltZ};
 ghost use Rattle.word.specs.Sums.{limited};
-ghost use Rattle.word.specs.Numbers.{number-of, number-at, bits-of, bytes-of};
+ghost use Rattle.word.specs.Numbers.{number-of, number-at, byte-number, bits-of, bytes-of};
 ghost use Rattle.word.specs.Targets.{target};
 
 // What a sum comes to: a number in range, or out of range.
@@ -73,6 +73,16 @@ pub fn number_at(bytes: &[u8], at: usize) -> i32
     ensures { λ r. ⌜ r ≡ number-at (now (bytes .entry)) at ⌝ }
 {
     number(bytes[at], bytes[at + 1], bytes[at + 2], bytes[at + 3])
+}
+
+// The number of one signed byte.
+pub fn byte_number(b: u8) -> i32
+    ensures { λ r. ⌜ r ≡ byte-number b ⌝ }
+{
+    if b < 128 {
+        return b as i32;
+    }
+    complement((255 - b) as i32)
 }
 
 // A number's 32 bits, unsigned.

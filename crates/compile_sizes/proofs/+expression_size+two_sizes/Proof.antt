@@ -8,12 +8,14 @@ use lib.ListN.{getD}
 use borrow.Author.Needs.{needs}
 use Rattle.base.proofs.Cycles.{Member, twice, one-more, at, below, State, here}
 use Rattle.base.specs.Acts.{ok, then′}
-use Rattle.text.specs.Syntax.{Expression, Plus}
+use Rattle.text.specs.Syntax.{Expression, Constant, Plus}
 use Rattle.text.specs.Reading.{plus, pass, expression-of, expression}
 use Rattle.text.specs.Sizes.{expression-records}
 use Rattle.text.proofs.Heads as heads
 use Rattle.text.proofs.Opened as text-says
-use Rattle.text_shape.proofs.constant_width.Reads as constant-width
+use Rattle.text_shape.specs.Shape.{width-of, constant-width, constant-at}
+use Rattle.text_shape.proofs.Constants.{constant-read}
+use Rattle.text_shape.proofs.constant_width.Reads as constant-width-reads
 use Rattle.text_conditions.specs.Code.{expression-parts}
 use Rattle.compile_sizes.proofs.Counting.{told, Pair, first-countable, second-countable, both}
 use Rattle.compile_sizes.proofs.expression_size.Reads as expression-size-reads
@@ -32,7 +34,7 @@ abbrev two-sizes : Member 1 two-kinds.ps two-kinds.r
 two-sizes = one-more two-sizes-reads.Pre two-sizes-reads.Post
 
 abbrev known : ℕ → lts.Claims
-known t = (constant-width.Asked, constant-width.Learnt, below two-sizes t, two-sizes .post)
+known t = (below two-sizes t, two-sizes .post, constant-width-reads.Asked, constant-width-reads.Learnt)
 
 abbrev In-expression-size : ℕ → State expression-size lts.Claims (Type 0) → Type 0
 In-expression-size t = here expression-size (known t) t
@@ -46,24 +48,21 @@ In-two-sizes t = here two-sizes (two-known t) t
 -- ---- An expression
 
 module _ (t : ℕ) where
-  -- what is left is a sum
-  sum : (s : In-expression-size t lts.Start) → (getD (s .args .text .now) (s .args .at) 0 ≡ 0x10 → ⊥)
-      → (getD (s .args .text .now) (s .args .at) 0 ≡ 0x11 → ⊥)
+  -- a sum
+  sum : (s : In-expression-size t lts.Start) → getD (s .args .text .now) (s .args .at) 0 ≡ 0x12
       → expression (s .args .text .now) (s .args .nest) (s .args .at)
       ≡ expression-parts (s .args .text .now) (s .args .nest - 1) plus (s .args .at)
-  sum s n0 n1 =
-      let byte = text-says.last-expression (s .args .text .now) (s .args .nest) (s .args .at) (s .pre .1 .is) n0 n1 in
+  sum s byte =
       let o = text-says.expression-opened _ _ _ (s .pre .1 .is) in
       let nested : s .args .nest ≡ 0 → ⊥ = λ e. omega (arith, o .nested) in
       rw (heads.expression-at _ _ _ (o .inside) nested, heads.is-plus byte)
 
-  returns : In-expression-size t lts.Need-returns
-  unfolding expression-records
-  returns c =
-      let on : In-expression-size t lts.Then1 = search in
-      let s : In-expression-size t lts.Start = search in
-      let k = text-says.constant-at _ _ _ (s .pre .1 .is) (on .if1 .taken) in
-      told (s .pre .1) (omega (arith, c .constant-width .ensures, k .ends)) (sym (ap expression-records (k .is)))
+  -- what is left is a constant
+  constant : (s : In-expression-size t lts.Start) → let text = s .args .text .now in let i = s .args .at in
+      (getD text i 0 ≡ 0x12 → ⊥) → (getD text i 0 ≡ 0x11 → ⊥)
+      → text-says.Leaf text (expression text (s .args .nest) i) (1 + constant-width (getD text i 0)) i
+      (Constant (width-of (getD text i 0)) (constant-at text i .value)) (s .pre .1 .part) (s .pre .1 .next)
+  constant s n2 n1 = constant-read _ _ _ (s .pre .1 .is) (text-says.last-expression _ _ _ (s .pre .1 .is) n1 n2)
 
   returns-2 : In-expression-size t lts.Need-returns-2
   unfolding expression-records
@@ -71,6 +70,15 @@ module _ (t : ℕ) where
       let s : In-expression-size t lts.Start = search in
       let k = text-says.variable-at _ _ _ (s .pre .1 .is) (c .if2 .taken) .1 in
       told (s .pre .1) (k .ends) (sym (ap expression-records (k .is)))
+
+  returns-3 : In-expression-size t lts.Need-returns-3
+  unfolding expression-records
+  returns-3 c =
+      let rest : In-expression-size t lts.Else2 = search in
+      let off : In-expression-size t lts.Else1 = search in
+      let s : In-expression-size t lts.Start = search in
+      let k = constant s (off .if1 .left) (rest .if2 .left) in
+      told (s .pre .1) (omega (arith, c .constant-width .ensures, k .ends)) (sym (ap expression-records (k .is)))
 
 -- ---- Two sides
 
@@ -95,32 +103,32 @@ pub +expression-size+two-sizes-spec : {M : Type 1} → statement M
     (λ t.
     lts.spec (known t) (at expression-size t) (expression-size .post)
     (λ c. let s : In-expression-size t lts.Start = search in text-says.expression-opened _ _ _ (s .pre .1 .is) .inside)
+    (λ c. let s : In-expression-size t lts.Start = search in text-says.expression-opened _ _ _ (s .pre .1 .is) .nested)
+    (λ c κs.
+    let s : In-expression-size t lts.Start = search in
+    let o = text-says.expression-opened _ _ _ (s .pre .1 .is) in
+    (omega (arith, o .nested, s .pre .0), rw (sum t s (c .if1 .taken)) at (s .pre .1)))
     (λ c.
     let s : In-expression-size t lts.Start = search in
-    record { fits = omega (arith, text-says.constant-at _ _ _ (s .pre .1 .is) (c .if1 .taken) .inside, s .good .0 .0) })
-    (λ c κs. search needs)
-    (λ c.
     let on : In-expression-size t lts.Then1 = search in
-    let s : In-expression-size t lts.Start = search in
-    let k = text-says.constant-at _ _ _ (s .pre .1 .is) (on .if1 .taken) in
-    record { fits = omega (arith, c .constant-width .ensures, k .inside, s .good .0 .0) })
-    (returns t)
+    rw (sum t s (on .if1 .taken)) (c .two-sizes .ensures))
     (λ c.
     let s : In-expression-size t lts.Start = search in
     let k = text-says.variable-at _ _ _ (s .pre .1 .is) (c .if2 .taken) .1 in
     record { fits = omega (arith, k .inside, s .good .0 .0) })
     (returns-2 t)
-    (λ c. let s : In-expression-size t lts.Start = search in text-says.expression-opened _ _ _ (s .pre .1 .is) .nested)
-    (λ c κs.
-    let s : In-expression-size t lts.Start = search in
-    let off : In-expression-size t lts.Else1 = search in
-    let o = text-says.expression-opened _ _ _ (s .pre .1 .is) in
-    (omega (arith, o .nested, s .pre .0), rw (sum t s (off .if1 .left) (c .if2 .left)) at (s .pre .1)))
     (λ c.
     let s : In-expression-size t lts.Start = search in
     let off : In-expression-size t lts.Else1 = search in
+    record { fits = omega (arith, constant t s (off .if1 .left) (c .if2 .left) .inside, s .good .0 .0) })
+    (λ c κs. search needs)
+    (λ c.
     let rest : In-expression-size t lts.Else2 = search in
-    rw (sum t s (off .if1 .left) (rest .if2 .left)) (c .two-sizes .ensures)))
+    let off : In-expression-size t lts.Else1 = search in
+    let s : In-expression-size t lts.Start = search in
+    let k = constant t s (off .if1 .left) (rest .if2 .left) in
+    record { fits = omega (arith, c .constant-width .ensures, k .inside, s .good .0 .0) })
+    (returns-3 t))
     (λ t.
     two-lts.spec (two-known t) (at two-sizes t) (two-sizes .post)
     (λ c.

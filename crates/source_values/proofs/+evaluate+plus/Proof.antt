@@ -1,16 +1,18 @@
 -- The cycle of calls {evaluate, plus}: the nesting left falls from a Plus to its sides. A constant, a variable and a
 -- Plus are what their first byte says (Opened); a Plus comes to what its sides come to (Compound).
 use Prim.Native.Nat.{ℕ, _+_, _-_}
-use mathlib.Core.Path.{sym, ap₂, _∙_}
+use mathlib.Core.Path.{_≡_, sym, ap₂, _∙_}
 use native.Mathlib.Omega.{arith}
+use lib.ListN.{getD}
 use mir.Syntax.{w32}
 use mir.Facts.{toZ-ofZ}
 use borrow.Author.Needs.{needs}
 use Rattle.base.proofs.Cycles.{Member, twice, one-more, at, below, State, here}
 use Rattle.text.specs.Syntax.{Plus}
 use Rattle.text.specs.Reading.{expression}
-use Rattle.text.proofs.Opened.{Two, expression-opened, constant-at, variable-at, last-expression}
+use Rattle.text.proofs.Opened.{Two, expression-opened, variable-at, last-expression}
 use Rattle.text.proofs.Opened.{plus-at as sides-of-plus}
+use Rattle.text_shape.proofs.Constants.{Begins, constant-read}
 use Rattle.source.specs.Rules.{state}
 use Rattle.source_values.specs.Placed.{reaching}
 use Rattle.source_values.proofs.Steps.{value-told, was-read, placed-is}
@@ -37,7 +39,7 @@ plus = twice plus-reads.Pre plus-reads.Post
 
 abbrev evaluate-claims : ℕ → evaluate-lts.Claims
 evaluate-claims t =
-    (constant-reads.Asked, constant-reads.Learnt, variable-reads.Asked, variable-reads.Learnt, below plus t, plus .post)
+    (variable-reads.Asked, variable-reads.Learnt, below plus t, plus .post, constant-reads.Asked, constant-reads.Learnt)
 
 abbrev In-evaluate : ℕ → State evaluate evaluate-lts.Claims (Type 0) → Type 0
 In-evaluate t = here evaluate (evaluate-claims t) t
@@ -51,7 +53,11 @@ In-plus t = here plus (plus-claims t) t
 -- ---- States
 
 module _ (t : ℕ) where
-  -- `evaluate`: its start
+  -- `evaluate`: its start; what is neither a variable nor a Plus is a constant
+  constant-byte : (s : In-evaluate t evaluate-lts.Start) → let b = getD (s .args .text .now) (s .args .at) 0 in
+      (b ≡ 0x11 → ⊥) → (b ≡ 0x12 → ⊥) → Begins b
+  constant-byte s = last-expression _ _ _ (s .pre .1 .0 .is)
+
   -- `plus`: its start; after the left side's call; with its value, and that known to fit; the same of the right
   -- the sides of a Plus
   sides : (s : In-plus t plus-lts.Start) → let a = s .args in let side = expression (a .text .now) (a .nest - 1) in
@@ -65,15 +71,11 @@ pub +evaluate+plus-spec : {M : Type 1} → statement M
     (λ t. evaluate-lts.spec (evaluate-claims t) (at evaluate t) (evaluate .post)
     -- shared-slice-read-op
     (λ c. let s : In-evaluate t evaluate-lts.Start = search in expression-opened _ _ _ (s .pre .1 .0 .is) .inside)
-    -- constant-requires
-    (λ c κs.
-    let s : In-evaluate t evaluate-lts.Start = search in
-    constant-at _ _ _ (s .pre .1 .0 .is) (c .match .keys1) .inside)
     -- variable-requires
     (λ c κs.
     let s : In-evaluate t evaluate-lts.Start = search in
     let q = s .pre .1 in
-    let p = variable-at _ _ _ (q .0 .is) (c .match .keys2) in
+    let p = variable-at _ _ _ (q .0 .is) (c .match .keys1) in
     let v = p .0 in
     let l = q .1 in
     let w = p .1 .inside in
@@ -81,21 +83,25 @@ pub +evaluate+plus-spec : {M : Type 1} → statement M
     -- plus-requires
     (λ c κs.
     let s : In-evaluate t evaluate-lts.Start = search in
-    let q = s .pre .1 in
+    (omega arith, (c .match .keys2, s .pre .1)))
+    -- constant-requires
+    (λ c κs.
+    let s : In-evaluate t evaluate-lts.Start = search in
     let r = c .match .rest in
-    (omega arith, (last-expression _ _ _ (q .0 .is) (r .0 .1) (r .1), q)))
+    constant-read _ _ _ (s .pre .1 .0 .is) (constant-byte t s (r .0 .1) (r .1)) .inside)
     -- returns
     (λ c.
     let s : In-evaluate t evaluate-lts.Start = search in
-    let p = constant-at _ _ _ (s .pre .1 .0 .is) (c .before .match .keys1) in
-    c .constant .ensures _ ∙ sym (placed-is valuing _ (p .read)))
+    let p = variable-at _ _ _ (s .pre .1 .0 .is) (c .before .match .keys1) in
+    c .variable .ensures ∙ sym (placed-is valuing _ (p .1 .read)))
     -- returns-2
+    (λ c. c .plus .ensures)
+    -- returns-3
     (λ c.
     let s : In-evaluate t evaluate-lts.Start = search in
-    let p = variable-at _ _ _ (s .pre .1 .0 .is) (c .before .match .keys2) in
-    c .variable .ensures ∙ sym (placed-is valuing _ (p .1 .read)))
-    -- returns-3
-    (λ c. c .plus .ensures))
+    let r = c .before .match .rest in
+    let p = constant-read _ _ _ (s .pre .1 .0 .is) (constant-byte t s (r .0 .1) (r .1)) in
+    c .constant .ensures _ ∙ sym (placed-is valuing _ (p .read))))
     (λ t. plus-lts.spec (plus-claims t) (at plus t) (plus .post)
     -- add-evaluate
     (λ c.

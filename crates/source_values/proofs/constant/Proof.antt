@@ -16,7 +16,9 @@ use Rattle.source_values.proofs.constant.Tie as tie
 
 returns : tie.Need-returns
 unfolding value
-returns c m = c .spent .ensures m ∙ sym (spends _ _ m _ (c .before .if1 .taken))
+returns c m =
+    let none : tie.Then1 = search in
+    c .spent .ensures m ∙ sym (spends _ _ m _ (none .if1 .taken))
 
 returns-2 : tie.Need-returns-2
 unfolding value then′ give
@@ -37,8 +39,8 @@ constant-spec =
     tie.close
     (tie.spec
     (λ c κs. search needs)
-    returns
     (λ c κs. search needs)
+    returns
     (λ c. search needs)
     (λ c.
     let n : tie.After-constant-at = search in

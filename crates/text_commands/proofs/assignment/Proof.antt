@@ -17,7 +17,7 @@ use Rattle.text_commands.proofs.assignment.Tie as tie
 
 some-depth : (a : Expression) → 1 ≤ expression-depth a
 unfolding expression-depth
-some-depth (Constant z) = omega arith
+some-depth (Constant w z) = omega arith
 some-depth (Variable v) = omega arith
 some-depth (Plus a b) = omega (arith, some-depth a)
 

@@ -2,20 +2,21 @@
 -- The helper has the nesting left for the parts, so its measure is between that of its Plus and that of its parts.
 use Prim.Native.Nat.{ℕ}
 use mathlib.Core.Path.{refl}
+use mathlib.Core.Logic.{inl}
 use mathlib.Core.Bool.{Bool}
 use native.Mathlib.Omega.{arith}
 use borrow.Author.Needs.{needs}
 use Rattle.base.proofs.Cycles.{Member, twice, one-more, at, below, State, here}
-use Rattle.text.specs.Syntax.{Expression, Constant, Variable, Plus, Less}
-use Rattle.text.specs.Reading.{decline, number, operand, expression-of, condition-of}
+use Rattle.text.specs.Syntax.{Expression, Variable, Plus, Less}
+use Rattle.text.specs.Reading.{decline, operand, expression-of, condition-of}
 use Rattle.text.specs.Reading.{expression as reading}
 use Rattle.text.specs.Sizes.{expression-records, expression-depth, expression-names}
 use Rattle.text.specs.Sizes.{condition-records, condition-depth, condition-names}
 use Rattle.text.specs.Encoding.{Bytes}
 use Rattle.text.proofs.Heads as heads
-use Rattle.text.proofs.Heads.{is-constant, is-variable, is-plus, is-no-expression}
-use Rattle.text_conditions.specs.Code.{expressions, conditions, numbers, variables}
-use Rattle.text_conditions.proofs.Parts.{next-given, after, Alike, declines, one, first-ends, two}
+use Rattle.text.proofs.Heads.{is-variable, is-plus}
+use Rattle.text_conditions.specs.Code.{expressions, conditions, variables}
+use Rattle.text_conditions.proofs.Parts.{next-given, after, Alike, declines, one, first-ends, two, constant-told}
 use Rattle.text_conditions.proofs.Bounds.{room, expression-small}
 use Rattle.text_conditions.proofs.expression.Reads as expression-reads
 use Rattle.text_conditions.proofs.expression.Kinds as expression-kinds
@@ -26,15 +27,12 @@ use Rattle.text_conditions.proofs.+expression+two_expressions.Lts-two_e
 use Rattle.text_conditions.proofs.PartReading.decline.Reads as decline-reads
 use Rattle.text_conditions.proofs.constant.Reads as constant-reads
 use Rattle.text_conditions.proofs.joined.Reads as joined-reads
+use Rattle.text_conditions.proofs.last_expression.Reads as last-expression-reads
 use Rattle.text_conditions.proofs.variable.Reads as variable-reads
 use Rattle.text_conditions.proofs.+expression+two_expressions.{statement}
 use Rattle.text_conditions.proofs.+expression+two_expressions.Tie.{close}
 
 -- ---- Sizes
-
-constant-alike : Alike numbers expressions Constant
-unfolding expression-records expression-depth expression-names
-constant-alike = record { records = λ z. refl; depth = λ z. refl; names = λ z w. refl }
 
 variable-alike : Alike variables expressions Variable
 unfolding expression-records expression-depth expression-names
@@ -66,6 +64,8 @@ expression-claims t = (
   variable-reads.Learnt,
   below two-expressions t,
   two-expressions .post,
+  last-expression-reads.Asked,
+  last-expression-reads.Learnt,
 )
 
 abbrev In-expression : ℕ → State expression expression-lts.Claims (Type 0) → Type 0
@@ -98,12 +98,15 @@ unfolding expression-of condition-of decline
     (λ c κs. search needs)  -- variable
     (λ c. search needs)
     (λ c κs. search needs)  -- Plus
-    (λ c κs. search needs)
+    (λ c κs.
+    let h : In-expression t expression-lts.Else1 = search in
+    let no = c .match .rest in
+    (h .if1 .left, (no .0 .0 .1, (no .0 .1, no .1))))  -- neither
     (λ c.
     let n : In-expression t expression-lts.Else2 = search in
     let h : In-expression t expression-lts.Else1 = search in
-    rw (heads.expression-at _ _ _ (h .if1 .left) (n .if2 .left), is-constant (c .before .match .keys1))
-    (one _ expressions numbers Constant (number _) _ _ _ _ constant-alike (c .constant .ensures _)))
+    rw (heads.expression-at _ _ _ (h .if1 .left) (n .if2 .left))
+    (constant-told _ _ _ _ _ (inl (c .before .match .keys1)) (c .constant .ensures _)))
     (λ c.
     let b : In-expression t expression-lts.At-match-keys2 = search in
     let n : In-expression t expression-lts.Else2 = search in
@@ -119,12 +122,7 @@ unfolding expression-of condition-of decline
     (λ c.
     let n : In-expression t expression-lts.Else2 = search in
     let h : In-expression t expression-lts.Else1 = search in
-    let no = c .before .match .rest in
-    rw (
-      heads.expression-at _ _ _ (h .if1 .left) (n .if2 .left),
-      is-no-expression (no .0 .0 .1) (no .0 .1) (no .1),
-    )
-    (declines _ _ _ (c .decline3 .ensures))))
+    rw (heads.expression-at _ _ _ (h .if1 .left) (n .if2 .left)) (c .last-expression .ensures _ _)))
     (λ t. two-expressions-lts.spec (two-expressions-claims t) (at two-expressions t) (two-expressions .post)
     (λ c. search needs)
     (λ c κs. search needs)  -- the first expression

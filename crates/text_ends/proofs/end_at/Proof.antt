@@ -1,6 +1,10 @@
 -- `end_at` meets its contract: each arm is a law of its construct (Noting).
 use mathlib.Core.Logic.{inl, inr}
+use native.Mathlib.Omega.{arith}
 use borrow.Author.Needs.{needs}
+use lib.ListN.{getD}
+use Rattle.text_shape.specs.Shape.{width-of}
+use Rattle.text_shape.proofs.Constants.{narrow}
 use Rattle.text_ends.proofs.Noting as noting
 use Rattle.text_ends.proofs.end_at.Statement.{statement}
 use Rattle.text_ends.proofs.end_at.Tie as tie
@@ -19,7 +23,10 @@ end-at-spec =
     (λ c κs. search needs)
     (λ c. search needs)
     (λ c κs. search needs)
-    (λ c. search needs)
+    (λ c.
+    let s : tie.Start = search in
+    let four = narrow (width-of (getD (s .args .text .now) (s .args .at) 0)) in
+    record { fits = omega (arith, c .constant-width .ensures, s .good .0 .0, s .pre .0) })
     (λ c κs. search needs)
     (λ c. search needs)
     (λ c κs. search needs)

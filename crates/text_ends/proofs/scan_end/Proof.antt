@@ -8,8 +8,10 @@ use native.Mathlib.Omega.{arith}
 use borrow.Author.Needs.{needs}
 use lib.ListN.{length, getD}
 use Rattle.text_shape.specs.Shape.{constant-width}
+use Rattle.text_shape.proofs.Constants.{Begins}
 use Rattle.text_ends.specs.Ends.{width, due-after}
-use Rattle.text_ends.proofs.Passing.{Passing, Turn, byte-inside, turn, turn-leaf, turn-rest, arrived}
+use Rattle.text_ends.proofs.Passing.{Passing, Turn, byte-inside, turn, turn-constant, turn-leaf}
+use Rattle.text_ends.proofs.Passing.{turn-rest, arrived}
 use Rattle.text_ends.proofs.scan_end.Statement.{statement}
 use Rattle.text_ends.proofs.scan_end.Tie as tie
 
@@ -55,9 +57,8 @@ module _ (t : Due) where
   unfolding width due-after
   choice e = goes 0x03 e _ (omega arith)
 
-  constant : byte ≡ 0x10 → Goes (1 + constant-width byte) (due - 1)
-  unfolding width due-after
-  constant e = goes 0x10 e _ refl
+  constant : Begins byte → Goes (1 + constant-width byte) (due - 1)
+  constant = turn-constant (l .loop .inv) (t .loop-test .taken)
 
   leaf : (byte ≡ 0x11) ⊎ (byte ≡ 0x20) → Goes 2 (due - 1)
   leaf = turn-leaf (l .loop .inv) (t .loop-test .taken)

@@ -24,7 +24,8 @@ upper c =
     read-back
     w32
     (c .complement .ok)
-    (c .complement .ensures ∙ opposite-is (toZ w32 (4294967295 - u)) ∙ upper-half u (omega arith) (omega arith))
+    (c .complement .ensures ∙ opposite-is (toZ w32 (4294967295 - u))
+    ∙ upper-half w32 4294967295 u refl (omega arith) (omega arith))
 
 pub number-spec : {M : Type 1} → statement M
 number-spec =

@@ -1,0 +1,98 @@
+-- Two texts that differ in the spelling of constants alone (Respelling: EitherSpelling). Their commands have the same
+-- sizes, records and rule, and a call looks at a command for nothing else.
+use mathlib.Core.Path.{_≡_, refl, ap}
+use Prim.Native.Nat.{ℕ, _*_}
+use mathlib.Core.Bool.{Bool, true, false}
+use mathlib.Core.List.{List}
+use lib.Dec.{eqb, leb}
+use lib.ListN.{length}
+use Rattle.base.specs.Answers.{Answer, gives, unless_refuse_at_else_, and-then, settle}
+use Rattle.base.specs.Ends.{report}
+use Rattle.word.specs.Sums.{sum32}
+use Rattle.text.specs.Syntax.{Command}
+use Rattle.text.specs.Reading.{read-text}
+use Rattle.text.specs.Sizes.{records, sizes}
+use Rattle.text.specs.Respelling.{Respelled}
+use Rattle.text.specs.Calls.{read-call}
+use Rattle.text.proofs.Respelling.{same-sizes}
+use Rattle.source.specs.Rules.{Store, state, result-of, run-rules}
+use Rattle.source.specs.Calls.{source-tests, run-source}
+use Rattle.source.proofs.Respelling.{same-runs}
+use Rattle.record.specs.Bytes.{assembly-kind, machine-kind, code-bytes, over}
+use Rattle.compile.specs.Compilation.{ccomp}
+use Rattle.compile.specs.Table.{to-m-prog, table}
+use Rattle.compile.specs.Calls.{assemble-tests, assemble, compile-tests, Compiled, compile}
+use Rattle.compile.proofs.Respelling.{same-records}
+use Rattle.fitting.specs.Rows.{Lent, fit}
+use Rattle.fitting.specs.Respelling.{EitherSpelling}
+
+-- A test in front of what a call is to settle: for two commands of which the call tells and leaves the same
+unless-same : {A R B : Type 0} (t : Bool) (number place : ℕ) (result : A → R) (buffers : A → B) (old : B)
+    (x y : Answer A) → settle x result buffers old ≡ settle y result buffers old
+    → settle (unless t refuse number at place else x) result buffers old
+    ≡ settle (unless t refuse number at place else y) result buffers old
+unless-same true number place result buffers old x y e = e
+unless-same false number place result buffers old x y e = refl
+
+module _ (text other : List ℕ) (c d : Command) (e : read-text text ≡ gives c) (f : read-text other ≡ gives d)
+    (r : Respelled c d) where
+  -- ---- What is the same of the two commands
+
+  size : sizes c ≡ sizes d
+  size = same-sizes c d r
+
+  count : records c ≡ records d
+  count = ap (λ z. z .records) size
+
+  code : ccomp c ≡ ccomp d
+  code = same-records c d r
+
+  run : (store : Store) (budget : ℕ) → run-rules sum32 c budget store ≡ run-rules sum32 d budget store
+  run store budget = ap (λ rule. result-of (rule (state budget store))) (same-runs sum32 c d r)
+
+  -- ---- Each call
+
+  read-same : read-call text ≡ read-call other
+  unfolding read-call and-then
+  read-same = rw (e, f) (ap gives size)
+
+  assemble-same : (out : List ℕ) → assemble text out ≡ assemble other out
+  unfolding assemble assemble-tests and-then settle
+  assemble-same out =
+      rw (e, f, count)
+      (unless-same (leb (5 * records d) (length out)) 7 0 sizes _ out (gives c) (gives d)
+      (λ i. (gives (size i), over (code-bytes assembly-kind (code i)) out)))
+
+  compile-same : (lent : Compiled) → compile text lent ≡ compile other lent
+  unfolding compile compile-tests and-then settle
+  compile-same lent =
+      rw (e, f, count)
+      (unless-same (eqb (length (lent .table)) 64) 8 0 sizes _ lent _ _
+      (unless-same (leb (5 * records d) (length (lent .code))) 7 0 sizes _ lent (gives c) (gives d)
+      (λ i. (
+        gives (size i),
+        record {
+          code = over (code-bytes (machine-kind (size i .cells)) (to-m-prog (code i))) (lent .code);
+          table = table (code i);
+        },
+      ))))
+
+  run-same : (store : Store) (budget : ℕ) → run-source text store budget ≡ run-source other store budget
+  unfolding run-source source-tests and-then settle
+  run-same store budget =
+      rw (e, f)
+      (unless-same (eqb (length store) 64) 8 0 _ _ store (gives c) (gives d)
+      (λ i. (gives (report budget (run store budget i)), run store budget i .leaves)))
+
+  fit-same : (lent : Lent) (budget : ℕ) → fit text lent budget ≡ fit other lent budget
+  unfolding fit
+  fit-same lent budget = rw (compile-same (record { code = lent .code; table = lent .table })) refl
+
+pub either-spelling : EitherSpelling
+either-spelling text other c d e f r = record {
+  reading = read-same text other c d e f r;
+  assembling = assemble-same text other c d e f r;
+  compiling = compile-same text other c d e f r;
+  running = run-same text other c d e f r;
+  fitting = fit-same text other c d e f r;
+}

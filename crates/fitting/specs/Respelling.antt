@@ -1,0 +1,30 @@
+-- Two texts that differ in the spelling of constants alone (document 02, W1): every call that takes a text gives the
+-- same for the one as for the other, and leaves the same in the lent buffers. The proof of the same spelling stands in
+-- proofs/.
+use mathlib.Core.Path.{_≡_}
+use Prim.Native.Nat.{ℕ}
+use mathlib.Core.List.{List}
+use Rattle.base.specs.Answers.{gives}
+use Rattle.text.specs.Syntax.{Command}
+use Rattle.text.specs.Reading.{read-text}
+use Rattle.text.specs.Respelling.{Respelled}
+use Rattle.text.specs.Calls.{read-call}
+use Rattle.source.specs.Rules.{Store}
+use Rattle.source.specs.Calls.{run-source}
+use Rattle.compile.specs.Calls.{Compiled, assemble, compile}
+use Rattle.fitting.specs.Rows.{Lent, fit}
+
+pub record SameAnswers (text other : List ℕ) : Type 0 where
+  -- record count, D and n
+  pub reading : read-call text ≡ read-call other
+  -- the assembly records
+  pub assembling : (out : List ℕ) → assemble text out ≡ assemble other out
+  -- the machine records and the table
+  pub compiling : (lent : Compiled) → compile text lent ≡ compile other lent
+  -- the run of the text, and the run of what is compiled from it
+  pub running : (store : Store) (budget : ℕ) → run-source text store budget ≡ run-source other store budget
+  pub fitting : (lent : Lent) (budget : ℕ) → fit text lent budget ≡ fit other lent budget
+
+abbrev pub EitherSpelling : Type 0
+EitherSpelling = (text other : List ℕ) (c d : Command) → read-text text ≡ gives c → read-text other ≡ gives d
+    → Respelled c d → SameAnswers text other
