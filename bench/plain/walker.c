@@ -38,6 +38,11 @@ static const uint8_t *expression(struct run *run, const uint8_t *at, int32_t *va
             return NULL;
         *value = run->store[at[1]];
         return at + 2;
+    case 0x13:
+        if (!tick(run))
+            return NULL;
+        *value = (int8_t)at[1];
+        return at + 2;
     default:
         if (!(at = expression(run, at + 1, &x)) || !(at = expression(run, at, &y)) || !tick(run))
             return NULL;
@@ -55,6 +60,7 @@ static const uint8_t *expression_end(const uint8_t *at)
     case 0x10:
         return at + 5;
     case 0x11:
+    case 0x13:
         return at + 2;
     default:
         return expression_end(expression_end(at + 1));

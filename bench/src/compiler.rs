@@ -56,6 +56,11 @@ impl Compiler<'_> {
                 self.emit(0x42, 0);
                 Ok(depth)
             }
+            0x13 => {
+                let z = self.cursor.one_byte_constant()?;
+                self.emit(0x40, z);
+                Ok(1)
+            }
             _ => self.cursor.unknown(),
         }
     }

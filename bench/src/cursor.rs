@@ -55,6 +55,10 @@ impl<'a> Cursor<'a> {
         Ok(i32::from_le_bytes(bytes.try_into().unwrap()))
     }
 
+    pub fn one_byte_constant(&mut self) -> Result<i32, Refusal> {
+        Ok(self.byte()? as i8 as i32)
+    }
+
     /// The byte just read begins no construct of the kind due.
     pub fn unknown<T>(&self) -> Result<T, Refusal> {
         Err(Refusal(2, self.at - 1))

@@ -25,6 +25,11 @@ impl Reader<'_> {
                 self.records += 1;
                 Ok(self.expression(left - 1)?.max(self.expression(left - 1)? + 1))
             }
+            0x13 => {
+                self.cursor.one_byte_constant()?;
+                self.records += 1;
+                Ok(1)
+            }
             _ => self.cursor.unknown(),
         }
     }

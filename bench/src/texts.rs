@@ -7,6 +7,14 @@ fn constant(z: i32) -> Vec<u8> {
     [vec![0x10], z.to_le_bytes().to_vec()].concat()
 }
 
+/// The same with one byte, where that is enough.
+fn short(z: i32) -> Vec<u8> {
+    i8::try_from(z).map_or(constant(z), |byte| vec![0x13, byte as u8])
+}
+
+/// How a text's constants are spelled.
+type Spelling = fn(i32) -> Vec<u8>;
+
 fn variable(v: u8) -> Vec<u8> {
     vec![0x11, v]
 }
@@ -73,7 +81,12 @@ fn nested(levels: usize, innermost: Vec<u8>, around: Around) -> Vec<u8> {
 // ---- Loops that run until their ticks are spent
 
 pub fn loops() -> Vec<Text> {
-    vec![("counting", counting()), ("branching", branching()), ("straight", straight())]
+    vec![
+        ("counting", counting()),
+        ("branching", branching(constant)),
+        ("straight", straight()),
+        ("branching, one-byte constants", branching(short)),
+    ]
 }
 
 pub fn skipping_loops() -> Vec<Text> {
@@ -91,7 +104,7 @@ fn counting() -> Vec<u8> {
 }
 
 /// A loop over four variables with nested IF, And and Not
-fn branching() -> Vec<u8> {
+fn branching(constant: Spelling) -> Vec<u8> {
     let step = |v: u8, z: i32| assign(v, plus(variable(v), constant(z)));
     let reset = |v: u8| assign(v, constant(0));
     let inner = choose(
@@ -165,23 +178,31 @@ fn two_axes() -> Vec<u8> {
 // ---- Long texts
 
 pub fn long() -> Vec<Text> {
-    vec![("random, 4,000 bytes", random()), ("spine of 60 IFs and WHILEs", spine())]
+    vec![
+        ("random, 4,000 bytes", random(constant, 1000, 5000)),
+        ("spine of 60 IFs and WHILEs", spine()),
+        ("random, one-byte constants", random(short, 127, 7000)),
+    ]
 }
 
-/// A small generator of numbers (xorshift).
-struct Random(u64);
+/// A small generator of numbers (xorshift), and the constants that it makes: from −most to most.
+struct Random {
+    state: u64,
+    spelling: Spelling,
+    most: u64,
+}
 
 impl Random {
     fn below(&mut self, n: u64) -> u64 {
-        self.0 ^= self.0 << 13;
-        self.0 ^= self.0 >> 7;
-        self.0 ^= self.0 << 17;
-        self.0 % n
+        self.state ^= self.state << 13;
+        self.state ^= self.state >> 7;
+        self.state ^= self.state << 17;
+        self.state % n
     }
 
     fn expression(&mut self, levels: u32) -> Vec<u8> {
         match self.below(if levels == 0 { 2 } else { 4 }) {
-            0 => constant(self.below(2001) as i32 - 1000),
+            0 => (self.spelling)(self.below(2 * self.most + 1) as i32 - self.most as i32),
             1 => variable(self.below(64) as u8),
             _ => plus(self.expression(levels - 1), self.expression(levels - 1)),
         }
@@ -209,11 +230,11 @@ impl Random {
     }
 }
 
-/// A random text of 3,900 to 4,096 bytes
-fn random() -> Vec<u8> {
-    let mut random = Random(41);
+/// A random text of 3,900 to 4,096 bytes, of tries at about so many
+fn random(spelling: Spelling, most: u64, size: usize) -> Vec<u8> {
+    let mut random = Random { state: 41, spelling, most };
     loop {
-        let text = random.command(5000);
+        let text = random.command(size);
         if (3900..=4096).contains(&text.len()) {
             return text;
         }
@@ -265,6 +286,7 @@ pub fn shapes() -> Vec<Text> {
     vec![
         ("flat, variables", filled(assign(1, variable(2)))),
         ("flat, constants", filled(assign(1, constant(2)))),
+        ("flat, one-byte constants", filled(assign(1, short(2)))),
         ("sums on the left", sums(&|_, a| plus(a, variable(1)))),
         ("sums on the right", sums(&|_, a| plus(variable(1), a))),
         ("Nots", conditions(&|_, b| not(b))),

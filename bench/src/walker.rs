@@ -38,6 +38,10 @@ impl Walker<'_> {
                 self.tick()?;
                 Ok((self.store[self.text[at + 1] as usize], at + 2))
             }
+            0x13 => {
+                self.tick()?;
+                Ok((self.text[at + 1] as i8 as i32, at + 2))
+            }
             _ => {
                 let (x, middle) = self.expression(at + 1)?;
                 let (y, next) = self.expression(middle)?;
@@ -125,7 +129,7 @@ impl Walker<'_> {
             0x01 => self.passed(at + 2),
             0x03 => self.passed(self.passed(self.passed(at + 1))),
             0x10 => at + 5,
-            0x11 | 0x20 => at + 2,
+            0x11 | 0x13 | 0x20 => at + 2,
             0x21 => self.passed(at + 1),
             _ => self.passed(self.passed(at + 1)),
         }

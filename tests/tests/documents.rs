@@ -2,11 +2,23 @@
 
 use std::path::{Path, PathBuf};
 
-const DOCUMENTS: [&str; 5] =
-    ["README.md", "docs/ARCHITECTURE.md", "docs/CONTRIBUTING.md", "docs/DECISIONS.md", "docs/READERS.md"];
-
 fn root() -> PathBuf {
     Path::new(env!("CARGO_MANIFEST_DIR")).join("..")
+}
+
+/// README.md and every page of docs/ and docs/requests/.
+fn documents() -> Vec<String> {
+    let mut documents = vec!["README.md".to_string()];
+    for folder in ["docs", "docs/requests"] {
+        for entry in std::fs::read_dir(root().join(folder)).unwrap() {
+            let name = entry.unwrap().file_name().into_string().unwrap();
+            if name.ends_with(".md") {
+                documents.push(format!("{folder}/{name}"));
+            }
+        }
+    }
+    assert!(documents.len() >= 6);
+    documents
 }
 
 /// The parts of a document between backticks.
@@ -28,8 +40,8 @@ fn has_word(text: &str, word: &str) -> bool {
 #[test]
 fn files() {
     let mut count = 0;
-    for document in DOCUMENTS {
-        for name in quoted(document) {
+    for document in documents() {
+        for name in quoted(&document) {
             let parts: Vec<&str> = name.split('/').collect();
             if parts.len() >= 3 && is_crate(parts[0]) && ["specs", "proofs", "src", "must-fail"].contains(&parts[1]) {
                 let path = root().join("crates").join(&name);
@@ -119,8 +131,8 @@ fn functions() {
         .map(|layer| layer.unwrap().file_name().into_string().unwrap())
         .collect();
     let mut count = 0;
-    for document in DOCUMENTS {
-        for quote in quoted(document) {
+    for document in documents() {
+        for quote in quoted(&document) {
             let Some((owner, names)) = quote.split_once("::") else { continue };
             let text = if is_crate(owner) {
                 source(owner)

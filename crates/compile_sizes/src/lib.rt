@@ -1,22 +1,24 @@
 // How many records an expression or a condition has, as it stands in a text.
 // And's left side is asked for again when the condition is written, so measuring remembers it in a cache, `sizes`: of a
 // condition's position one more than the records that it has under false.
-ghost use Prim.Native.Nat.{ℕ};
+ghost use Prim.Native.Nat.{ℕ, _+_, _≤_};
 ghost use mathlib.Core.Path.{_≡_};
 ghost use mathlib.Core.Bool.{false, Bool·beq};
-ghost use lib.ListN.{getD};
+ghost use lib.ListN.{length, getD};
 ghost use Rattle.base.specs.Acts.{ok, if_then_else_};
 ghost use Rattle.text.specs.Syntax.{Condition};
 ghost use Rattle.text.specs.Reading.{plus, expression, condition};
 ghost use Rattle.text.specs.Sizes.{expression-records, condition-records};
+ghost use Rattle.text_shape.specs.Shape.{constant-width};
 ghost use Rattle.text_conditions.specs.Code.{expression-parts};
 ghost use Rattle.compile_sizes.specs.Parts.{Countable, Counts, Sized};
 ghost use Rattle.compile_sizes.specs.Nots.{Behind};
 ghost use Rattle.compile_sizes.specs.Cache.{looked-up, size-noted, ConditionSizes};
 use text_shape::AND;
 use text_shape::BC;
+use text_shape::CONSTANT;
 use text_shape::NOT;
-use text_shape::PLUS;
+use text_shape::ONE_BYTE_CONSTANT;
 use text_shape::VARIABLE;
 use text_shape::constant_width;
 
@@ -75,14 +77,26 @@ fn two_sizes(text: &[u8], at: usize, nest: usize) -> PartSize
     }
 }
 
+// A constant's one record, and where the constant ends.
+fn constant_size(text: &[u8], at: usize) -> PartSize
+    requires { ⌜ at + (1 + constant-width (getD (now text) at 0)) ≤ length (now text) ⌝ }
+    ensures { λ r. ⌜ r .next ≡ at + (1 + constant-width (getD (now (text .entry)) at 0)) ⌝ }
+    ensures { λ r. ⌜ r .records ≡ 1 ⌝ }
+{
+    PartSize {
+        next: at + 1 + constant_width(text[at]),
+        records: 1,
+    }
+}
+
 // How many records an expression has.
 fn expression_size(text: &[u8], at: usize, nest: usize) -> PartSize
     requires { ⌜ Countable expression-records (expression (now text) nest at) ⌝ }
     ensures { λ r. ⌜ Counts expression-records (expression (now (text .entry)) nest at) r ⌝ }
 {
     let byte = text[at];
-    if byte == PLUS {
-        return two_sizes(text, at, nest - 1);
+    if byte == CONSTANT {
+        return constant_size(text, at);
     }
     if byte == VARIABLE {
         return PartSize {
@@ -90,10 +104,11 @@ fn expression_size(text: &[u8], at: usize, nest: usize) -> PartSize
             records: 1,
         };
     }
-    PartSize {
-        next: at + 1 + constant_width(byte),
-        records: 1,
+    // a Plus or a one-byte constant (one case more would make the other two slower)
+    if byte < ONE_BYTE_CONSTANT {
+        return two_sizes(text, at, nest - 1);
     }
+    constant_size(text, at)
 }
 
 // ---- Conditions

@@ -19,9 +19,10 @@ ghost use Rattle.source_values.specs.Code.{valued, tested};
 use text_ends::part_end;
 use text_shape::AND;
 use text_shape::BC;
+use text_shape::CONSTANT;
 use text_shape::LESS;
 use text_shape::NOT;
-use text_shape::PLUS;
+use text_shape::ONE_BYTE_CONSTANT;
 use text_shape::VARIABLE;
 use text_shape::constant_at;
 use word::Sum;
@@ -137,9 +138,16 @@ pub fn evaluate(text: &[u8], at: usize, nest: usize, store: &[i32], left: u32) -
 {
     let op = text[at];
     match op {
+        CONSTANT => constant(text, at, left),
         VARIABLE => variable(text, at, store, left),
-        PLUS => plus(text, at, nest, store, left),
-        _ => constant(text, at, left),
+        // a Plus or a one-byte constant (one case more would make these two slower)
+        _ => {
+            if op < ONE_BYTE_CONSTANT {
+                plus(text, at, nest, store, left)
+            } else {
+                constant(text, at, left)
+            }
+        }
     }
 }
 

@@ -4,7 +4,8 @@ use mathlib.Core.Path.{_≡_, refl}
 use mathlib.Core.Logic.{_⊎_, inl, inr}
 use mathlib.Core.Bool.{false}
 use mathlib.Core.List.{List}
-use Prim.Native.Nat.{ℕ, _+_, _≤_}
+use Prim.Native.Nat.{ℕ, _+_, _≤_, _<_}
+use native.Mathlib.Decide.{ℕ-discrete}
 use native.Mathlib.Omega.{arith}
 use lib.ListN.{getD}
 use borrow.Author.Tests.{ne-eqb}
@@ -56,3 +57,21 @@ pub constant-read : (text : List ℕ) (nest i : ℕ) {a : Expression} {n : ℕ} 
     → text-says.Leaf text (expression text nest i) (1 + constant-width (getD text i 0)) i
     (Constant (width-of (getD text i 0)) (constant-at text i .value)) a n
 constant-read text nest i e b = text-says.constant-at text nest i e (width-of (getD text i 0)) (is-constant b)
+
+-- Where something was read that is neither a variable nor a constant of four bytes: below 13 it is a Plus,
+pub last-sum : (text : List ℕ) (nest i : ℕ) {a : Expression} {n : ℕ} → expression text nest i ≡ ok a n
+    → (getD text i 0 ≡ 0x10 → ⊥) → (getD text i 0 ≡ 0x11 → ⊥) → getD text i 0 < 0x13 → getD text i 0 ≡ 0x12
+last-sum text nest i e n0 n1 h = by (ℕ-discrete (getD text i 0) 0x12)
+  where
+    neither : Begins (getD text i 0) → getD text i 0 ≡ 0x12
+    neither (inl f) = absurd (n0 f)
+    neither (inr f) = absurd (omega arith)
+
+    by : Dec (getD text i 0 ≡ 0x12) → getD text i 0 ≡ 0x12
+    by (yes f) = f
+    by (no n2) = neither (text-says.last-expression text nest i e n1 n2)
+
+-- and else a constant of one byte.
+pub last-constant : (text : List ℕ) (nest i : ℕ) {a : Expression} {n : ℕ} → expression text nest i ≡ ok a n
+    → (getD text i 0 ≡ 0x11 → ⊥) → 0x13 ≤ getD text i 0 → Begins (getD text i 0)
+last-constant text nest i e n1 h = text-says.last-expression text nest i e n1 (λ f. omega arith)

@@ -1,11 +1,11 @@
 -- An expression's size, by recursion: the nesting left falls from a sum to its sides. The two sides' function has the
 -- nesting left for them. The measure is twice the nesting left, and one more for two sides.
-use mathlib.Core.Path.{_≡_, sym, ap}
+use mathlib.Core.Path.{_≡_, sym, ap, _∙_}
+use mathlib.Core.Logic.{inl}
 use mathlib.Core.List.{List}
 use Prim.Native.Nat.{ℕ, _+_, _-_}
 use native.Mathlib.Omega.{arith}
 use lib.ListN.{getD}
-use borrow.Author.Needs.{needs}
 use Rattle.base.proofs.Cycles.{Member, twice, one-more, at, below, State, here}
 use Rattle.base.specs.Acts.{ok, then′}
 use Rattle.text.specs.Syntax.{Expression, Constant, Plus}
@@ -14,10 +14,12 @@ use Rattle.text.specs.Sizes.{expression-records}
 use Rattle.text.proofs.Heads as heads
 use Rattle.text.proofs.Opened as text-says
 use Rattle.text_shape.specs.Shape.{width-of, constant-width, constant-at}
-use Rattle.text_shape.proofs.Constants.{constant-read}
-use Rattle.text_shape.proofs.constant_width.Reads as constant-width-reads
+use Rattle.text_shape.proofs.Constants.{Begins, constant-read, last-sum, last-constant}
 use Rattle.text_conditions.specs.Code.{expression-parts}
+use Rattle.compile_sizes.specs.Parts.{Counts}
+use Rattle.compile_sizes.specs.declared.PartSize.{PartSize}
 use Rattle.compile_sizes.proofs.Counting.{told, Pair, first-countable, second-countable, both}
+use Rattle.compile_sizes.proofs.constant_size.Reads as constant-size-reads
 use Rattle.compile_sizes.proofs.expression_size.Reads as expression-size-reads
 use Rattle.compile_sizes.proofs.expression_size.Kinds as kinds
 use Rattle.compile_sizes.proofs.two_sizes.Reads as two-sizes-reads
@@ -34,7 +36,7 @@ abbrev two-sizes : Member 1 two-kinds.ps two-kinds.r
 two-sizes = one-more two-sizes-reads.Pre two-sizes-reads.Post
 
 abbrev known : ℕ → lts.Claims
-known t = (below two-sizes t, two-sizes .post, constant-width-reads.Asked, constant-width-reads.Learnt)
+known t = (constant-size-reads.Asked, constant-size-reads.Learnt, below two-sizes t, two-sizes .post)
 
 abbrev In-expression-size : ℕ → State expression-size lts.Claims (Type 0) → Type 0
 In-expression-size t = here expression-size (known t) t
@@ -57,12 +59,25 @@ module _ (t : ℕ) where
       let nested : s .args .nest ≡ 0 → ⊥ = λ e. omega (arith, o .nested) in
       rw (heads.expression-at _ _ _ (o .inside) nested, heads.is-plus byte)
 
-  -- what is left is a constant
-  constant : (s : In-expression-size t lts.Start) → let text = s .args .text .now in let i = s .args .at in
-      (getD text i 0 ≡ 0x12 → ⊥) → (getD text i 0 ≡ 0x11 → ⊥)
-      → text-says.Leaf text (expression text (s .args .nest) i) (1 + constant-width (getD text i 0)) i
-      (Constant (width-of (getD text i 0)) (constant-at text i .value)) (s .pre .1 .part) (s .pre .1 .next)
-  constant s n2 n1 = constant-read _ _ _ (s .pre .1 .is) (text-says.last-expression _ _ _ (s .pre .1 .is) n1 n2)
+  module _ (s : In-expression-size t lts.Start) where
+    abbrev text : List ℕ
+    text = s .args .text .now
+
+    abbrev i : ℕ
+    i = s .args .at
+
+    -- a constant
+    constant : Begins (getD text i 0) → text-says.Leaf text (expression text (s .args .nest) i)
+        (1 + constant-width (getD text i 0)) i (Constant (width-of (getD text i 0)) (constant-at text i .value))
+        (s .pre .1 .part) (s .pre .1 .next)
+    constant b = constant-read _ _ _ (s .pre .1 .is) b
+
+    constant-told : (b : Begins (getD text i 0)) {r : PartSize} → r .next ≡ i + (1 + constant-width (getD text i 0))
+        → r .records ≡ 1 → Counts expression-records (expression text (s .args .nest) i) r
+    unfolding expression-records
+    constant-told b e f =
+        let k = constant b in
+        told (s .pre .1) (omega (arith, k .ends)) (f ∙ sym (ap expression-records (k .is)))
 
   returns-2 : In-expression-size t lts.Need-returns-2
   unfolding expression-records
@@ -70,15 +85,6 @@ module _ (t : ℕ) where
       let s : In-expression-size t lts.Start = search in
       let k = text-says.variable-at _ _ _ (s .pre .1 .is) (c .if2 .taken) .1 in
       told (s .pre .1) (k .ends) (sym (ap expression-records (k .is)))
-
-  returns-3 : In-expression-size t lts.Need-returns-3
-  unfolding expression-records
-  returns-3 c =
-      let rest : In-expression-size t lts.Else2 = search in
-      let off : In-expression-size t lts.Else1 = search in
-      let s : In-expression-size t lts.Start = search in
-      let k = constant s (off .if1 .left) (rest .if2 .left) in
-      told (s .pre .1) (omega (arith, c .constant-width .ensures, k .ends)) (sym (ap expression-records (k .is)))
 
 -- ---- Two sides
 
@@ -103,32 +109,42 @@ pub +expression-size+two-sizes-spec : {M : Type 1} → statement M
     (λ t.
     lts.spec (known t) (at expression-size t) (expression-size .post)
     (λ c. let s : In-expression-size t lts.Start = search in text-says.expression-opened _ _ _ (s .pre .1 .is) .inside)
-    (λ c. let s : In-expression-size t lts.Start = search in text-says.expression-opened _ _ _ (s .pre .1 .is) .nested)
-    (λ c κs.
-    let s : In-expression-size t lts.Start = search in
-    let o = text-says.expression-opened _ _ _ (s .pre .1 .is) in
-    (omega (arith, o .nested, s .pre .0), rw (sum t s (c .if1 .taken)) at (s .pre .1)))
+    (λ c κs. let s : In-expression-size t lts.Start = search in constant t s (inl (c .if1 .taken)) .inside)
     (λ c.
-    let s : In-expression-size t lts.Start = search in
     let on : In-expression-size t lts.Then1 = search in
-    rw (sum t s (on .if1 .taken)) (c .two-sizes .ensures))
+    let s : In-expression-size t lts.Start = search in
+    let r = c .constant-size .ensures in
+    constant-told t s (inl (on .if1 .taken)) (r .0) (r .1))
     (λ c.
     let s : In-expression-size t lts.Start = search in
     let k = text-says.variable-at _ _ _ (s .pre .1 .is) (c .if2 .taken) .1 in
     record { fits = omega (arith, k .inside, s .good .0 .0) })
     (returns-2 t)
-    (λ c.
-    let s : In-expression-size t lts.Start = search in
-    let off : In-expression-size t lts.Else1 = search in
-    record { fits = omega (arith, constant t s (off .if1 .left) (c .if2 .left) .inside, s .good .0 .0) })
-    (λ c κs. search needs)
-    (λ c.
-    let rest : In-expression-size t lts.Else2 = search in
+    (λ c. let s : In-expression-size t lts.Start = search in text-says.expression-opened _ _ _ (s .pre .1 .is) .nested)
+    (λ c κs.
+    let other : In-expression-size t lts.Else2 = search in
     let off : In-expression-size t lts.Else1 = search in
     let s : In-expression-size t lts.Start = search in
-    let k = constant t s (off .if1 .left) (rest .if2 .left) in
-    record { fits = omega (arith, c .constant-width .ensures, k .inside, s .good .0 .0) })
-    (returns-3 t))
+    let o = text-says.expression-opened _ _ _ (s .pre .1 .is) in
+    let byte = last-sum _ _ _ (s .pre .1 .is) (off .if1 .left) (other .if2 .left) (c .if3 .taken) in
+    (omega (arith, o .nested, s .pre .0), rw (sum t s byte) at (s .pre .1)))
+    (λ c.
+    let on : In-expression-size t lts.Then3 = search in
+    let other : In-expression-size t lts.Else2 = search in
+    let off : In-expression-size t lts.Else1 = search in
+    let s : In-expression-size t lts.Start = search in
+    let byte = last-sum _ _ _ (s .pre .1 .is) (off .if1 .left) (other .if2 .left) (on .if3 .taken) in
+    rw (sum t s byte) (c .two-sizes .ensures))
+    (λ c κs.
+    let other : In-expression-size t lts.Else2 = search in
+    let s : In-expression-size t lts.Start = search in
+    constant t s (last-constant _ _ _ (s .pre .1 .is) (other .if2 .left) (c .if3 .left)) .inside)
+    (λ c.
+    let rest : In-expression-size t lts.Else3 = search in
+    let other : In-expression-size t lts.Else2 = search in
+    let s : In-expression-size t lts.Start = search in
+    let r = c .constant-size2 .ensures in
+    constant-told t s (last-constant _ _ _ (s .pre .1 .is) (other .if2 .left) (rest .if3 .left)) (r .0) (r .1)))
     (λ t.
     two-lts.spec (two-known t) (at two-sizes t) (two-sizes .post)
     (λ c.

@@ -1,18 +1,18 @@
 -- The cycle of calls {evaluate, plus}: the nesting left falls from a Plus to its sides. A constant, a variable and a
 -- Plus are what their first byte says (Opened); a Plus comes to what its sides come to (Compound).
 use Prim.Native.Nat.{ℕ, _+_, _-_}
-use mathlib.Core.Path.{_≡_, sym, ap₂, _∙_}
+use mathlib.Core.Path.{sym, ap₂, _∙_}
+use mathlib.Core.Logic.{inl}
 use native.Mathlib.Omega.{arith}
-use lib.ListN.{getD}
 use mir.Syntax.{w32}
 use mir.Facts.{toZ-ofZ}
 use borrow.Author.Needs.{needs}
 use Rattle.base.proofs.Cycles.{Member, twice, one-more, at, below, State, here}
 use Rattle.text.specs.Syntax.{Plus}
 use Rattle.text.specs.Reading.{expression}
-use Rattle.text.proofs.Opened.{Two, expression-opened, variable-at, last-expression}
+use Rattle.text.proofs.Opened.{Two, expression-opened, variable-at}
 use Rattle.text.proofs.Opened.{plus-at as sides-of-plus}
-use Rattle.text_shape.proofs.Constants.{Begins, constant-read}
+use Rattle.text_shape.proofs.Constants.{constant-read, last-sum, last-constant}
 use Rattle.source.specs.Rules.{state}
 use Rattle.source_values.specs.Placed.{reaching}
 use Rattle.source_values.proofs.Steps.{value-told, was-read, placed-is}
@@ -39,7 +39,7 @@ plus = twice plus-reads.Pre plus-reads.Post
 
 abbrev evaluate-claims : ℕ → evaluate-lts.Claims
 evaluate-claims t =
-    (variable-reads.Asked, variable-reads.Learnt, below plus t, plus .post, constant-reads.Asked, constant-reads.Learnt)
+    (constant-reads.Asked, constant-reads.Learnt, variable-reads.Asked, variable-reads.Learnt, below plus t, plus .post)
 
 abbrev In-evaluate : ℕ → State evaluate evaluate-lts.Claims (Type 0) → Type 0
 In-evaluate t = here evaluate (evaluate-claims t) t
@@ -53,11 +53,7 @@ In-plus t = here plus (plus-claims t) t
 -- ---- States
 
 module _ (t : ℕ) where
-  -- `evaluate`: its start; what is neither a variable nor a Plus is a constant
-  constant-byte : (s : In-evaluate t evaluate-lts.Start) → let b = getD (s .args .text .now) (s .args .at) 0 in
-      (b ≡ 0x11 → ⊥) → (b ≡ 0x12 → ⊥) → Begins b
-  constant-byte s = last-expression _ _ _ (s .pre .1 .0 .is)
-
+  -- `evaluate`: its start
   -- `plus`: its start; after the left side's call; with its value, and that known to fit; the same of the right
   -- the sides of a Plus
   sides : (s : In-plus t plus-lts.Start) → let a = s .args in let side = expression (a .text .now) (a .nest - 1) in
@@ -71,11 +67,15 @@ pub +evaluate+plus-spec : {M : Type 1} → statement M
     (λ t. evaluate-lts.spec (evaluate-claims t) (at evaluate t) (evaluate .post)
     -- shared-slice-read-op
     (λ c. let s : In-evaluate t evaluate-lts.Start = search in expression-opened _ _ _ (s .pre .1 .0 .is) .inside)
+    -- constant-requires
+    (λ c κs.
+    let s : In-evaluate t evaluate-lts.Start = search in
+    constant-read _ _ _ (s .pre .1 .0 .is) (inl (c .match .keys1)) .inside)
     -- variable-requires
     (λ c κs.
     let s : In-evaluate t evaluate-lts.Start = search in
     let q = s .pre .1 in
-    let p = variable-at _ _ _ (q .0 .is) (c .match .keys1) in
+    let p = variable-at _ _ _ (q .0 .is) (c .match .keys2) in
     let v = p .0 in
     let l = q .1 in
     let w = p .1 .inside in
@@ -83,25 +83,36 @@ pub +evaluate+plus-spec : {M : Type 1} → statement M
     -- plus-requires
     (λ c κs.
     let s : In-evaluate t evaluate-lts.Start = search in
-    (omega arith, (c .match .keys2, s .pre .1)))
-    -- constant-requires
+    let k : In-evaluate t evaluate-lts.At-match-rest = search in
+    let r = k .match .rest in
+    (omega arith, (last-sum _ _ _ (s .pre .1 .0 .is) (r .0 .1) (r .1) (c .if1 .taken), s .pre .1)))
+    -- constant-requires, of one byte
     (λ c κs.
     let s : In-evaluate t evaluate-lts.Start = search in
-    let r = c .match .rest in
-    constant-read _ _ _ (s .pre .1 .0 .is) (constant-byte t s (r .0 .1) (r .1)) .inside)
+    let k : In-evaluate t evaluate-lts.At-match-rest = search in
+    let r = k .match .rest in
+    constant-read _ _ _ (s .pre .1 .0 .is) (last-constant _ _ _ (s .pre .1 .0 .is) (r .1) (c .if1 .left)) .inside)
     -- returns
     (λ c.
     let s : In-evaluate t evaluate-lts.Start = search in
-    let p = variable-at _ _ _ (s .pre .1 .0 .is) (c .before .match .keys1) in
-    c .variable .ensures ∙ sym (placed-is valuing _ (p .1 .read)))
+    let p = constant-read _ _ _ (s .pre .1 .0 .is) (inl (c .before .match .keys1)) in
+    c .constant .ensures _ ∙ sym (placed-is valuing _ (p .read)))
     -- returns-2
-    (λ c. c .plus .ensures)
-    -- returns-3
     (λ c.
     let s : In-evaluate t evaluate-lts.Start = search in
-    let r = c .before .match .rest in
-    let p = constant-read _ _ _ (s .pre .1 .0 .is) (constant-byte t s (r .0 .1) (r .1)) in
-    c .constant .ensures _ ∙ sym (placed-is valuing _ (p .read))))
+    let p = variable-at _ _ _ (s .pre .1 .0 .is) (c .before .match .keys2) in
+    c .variable .ensures ∙ sym (placed-is valuing _ (p .1 .read)))
+    -- returns-3
+    (λ c. c .plus .ensures)
+    -- returns-4
+    (λ c.
+    let s : In-evaluate t evaluate-lts.Start = search in
+    let k : In-evaluate t evaluate-lts.At-match-rest = search in
+    let r = k .match .rest in
+    let off : In-evaluate t evaluate-lts.Else1 = search in
+    let b = last-constant _ _ _ (s .pre .1 .0 .is) (r .1) (off .if1 .left) in
+    let p = constant-read _ _ _ (s .pre .1 .0 .is) b in
+    c .constant2 .ensures _ ∙ sym (placed-is valuing _ (p .read))))
     (λ t. plus-lts.spec (plus-claims t) (at plus t) (plus .post)
     -- add-evaluate
     (λ c.
