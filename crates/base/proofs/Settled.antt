@@ -49,6 +49,14 @@ module _ {A R B : Type 0} (tests : Answer A) (result : A → R) (buffers : A →
   unfolding settle
   declined e = rw e
 
+-- A test in front of what a call is to settle: for two commands of which the call tells and leaves the same
+pub unless-same : {A R B : Type 0} (t : Bool) (number place : ℕ) (result : A → R) (buffers : A → B) (old : B)
+    (x y : Answer A) → settle x result buffers old ≡ settle y result buffers old
+    → settle (unless t refuse number at place else x) result buffers old
+    ≡ settle (unless t refuse number at place else y) result buffers old
+unless-same true number place result buffers old x y e = e
+unless-same false number place result buffers old x y e = refl
+
 -- What a call that gives says of its tests: they gave something, of which its result and its buffers are
 pub record Gave {A R B : Type 0} (tests : Answer A) (result : A → R) (buffers : A → B) (r : R) (now : B) : Type 0 where
   pub value : A

@@ -2,12 +2,12 @@
 -- sizes, records and rule, and a call looks at a command for nothing else.
 use mathlib.Core.Path.{_≡_, refl, ap}
 use Prim.Native.Nat.{ℕ, _*_}
-use mathlib.Core.Bool.{Bool, true, false}
 use mathlib.Core.List.{List}
 use lib.Dec.{eqb, leb}
 use lib.ListN.{length}
-use Rattle.base.specs.Answers.{Answer, gives, unless_refuse_at_else_, and-then, settle}
+use Rattle.base.specs.Answers.{gives, and-then, settle}
 use Rattle.base.specs.Ends.{report}
+use Rattle.base.proofs.Settled.{unless-same}
 use Rattle.word.specs.Sums.{sum32}
 use Rattle.text.specs.Syntax.{Command}
 use Rattle.text.specs.Reading.{read-text}
@@ -23,16 +23,8 @@ use Rattle.compile.specs.Compilation.{ccomp}
 use Rattle.compile.specs.Table.{to-m-prog, table}
 use Rattle.compile.specs.Calls.{assemble-tests, assemble, compile-tests, Compiled, compile}
 use Rattle.compile.proofs.Respelling.{same-records}
-use Rattle.fitting.specs.Rows.{Lent, fit}
+use Rattle.fitting.specs.Rows.{Lent, fit, AssemblyLent, assemble-and-run, BackLent, compile-and-go-back}
 use Rattle.fitting.specs.Respelling.{EitherSpelling}
-
--- A test in front of what a call is to settle: for two commands of which the call tells and leaves the same
-unless-same : {A R B : Type 0} (t : Bool) (number place : ℕ) (result : A → R) (buffers : A → B) (old : B)
-    (x y : Answer A) → settle x result buffers old ≡ settle y result buffers old
-    → settle (unless t refuse number at place else x) result buffers old
-    ≡ settle (unless t refuse number at place else y) result buffers old
-unless-same true number place result buffers old x y e = e
-unless-same false number place result buffers old x y e = refl
 
 module _ (text other : List ℕ) (c d : Command) (e : read-text text ≡ gives c) (f : read-text other ≡ gives d)
     (r : Respelled c d) where
@@ -84,6 +76,15 @@ module _ (text other : List ℕ) (c d : Command) (e : read-text text ≡ gives c
       (unless-same (eqb (length store) 64) 8 0 _ _ store (gives c) (gives d)
       (λ i. (gives (report budget (run store budget i)), run store budget i .leaves)))
 
+  assembly-same : (lent : AssemblyLent) (budget : ℕ)
+      → assemble-and-run text lent budget ≡ assemble-and-run other lent budget
+  unfolding assemble-and-run
+  assembly-same lent budget = rw (assemble-same (lent .code)) refl
+
+  back-same : (lent : BackLent) → compile-and-go-back text lent ≡ compile-and-go-back other lent
+  unfolding compile-and-go-back
+  back-same lent = rw (compile-same (record { code = lent .code; table = lent .table })) refl
+
   fit-same : (lent : Lent) (budget : ℕ) → fit text lent budget ≡ fit other lent budget
   unfolding fit
   fit-same lent budget = rw (compile-same (record { code = lent .code; table = lent .table })) refl
@@ -94,5 +95,7 @@ either-spelling text other c d e f r = record {
   assembling = assemble-same text other c d e f r;
   compiling = compile-same text other c d e f r;
   running = run-same text other c d e f r;
+  running-assembly = assembly-same text other c d e f r;
   fitting = fit-same text other c d e f r;
+  going-back = back-same text other c d e f r;
 }

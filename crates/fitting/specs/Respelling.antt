@@ -1,6 +1,6 @@
--- Two texts that differ in the spelling of constants alone (document 02, W1): every call that takes a text gives the
--- same for the one as for the other, and leaves the same in the lent buffers. The proof of the same spelling stands in
--- proofs/.
+-- Two texts that differ in the spelling of constants alone (document 02, W1): every call that takes a text, and every
+-- row of calls, gives the same for the one as for the other, and leaves the same in the lent buffers. The proof of the
+-- same spelling stands in proofs/.
 use mathlib.Core.Path.{_≡_}
 use Prim.Native.Nat.{ℕ}
 use mathlib.Core.List.{List}
@@ -12,7 +12,7 @@ use Rattle.text.specs.Calls.{read-call}
 use Rattle.source.specs.Rules.{Store}
 use Rattle.source.specs.Calls.{run-source}
 use Rattle.compile.specs.Calls.{Compiled, assemble, compile}
-use Rattle.fitting.specs.Rows.{Lent, fit}
+use Rattle.fitting.specs.Rows.{Lent, fit, AssemblyLent, assemble-and-run, BackLent, compile-and-go-back}
 
 pub record SameAnswers (text other : List ℕ) : Type 0 where
   -- record count, D and n
@@ -21,10 +21,15 @@ pub record SameAnswers (text other : List ℕ) : Type 0 where
   pub assembling : (out : List ℕ) → assemble text out ≡ assemble other out
   -- the machine records and the table
   pub compiling : (lent : Compiled) → compile text lent ≡ compile other lent
-  -- the run of the text, and the run of what is compiled from it
+  -- the run of the text, of its assembly and of its machine code
   pub running : (store : Store) (budget : ℕ) → run-source text store budget ≡ run-source other store budget
+  pub running-assembly : (lent : AssemblyLent) (budget : ℕ)
+      → assemble-and-run text lent budget ≡ assemble-and-run other lent budget
   pub fitting : (lent : Lent) (budget : ℕ) → fit text lent budget ≡ fit other lent budget
+  -- the assembly that its machine code goes back to
+  pub going-back : (lent : BackLent) → compile-and-go-back text lent ≡ compile-and-go-back other lent
 
+-- So it is of accepted texts whose commands differ in constants' widths alone.
 abbrev pub EitherSpelling : Type 0
 EitherSpelling = (text other : List ℕ) (c d : Command) → read-text text ≡ gives c → read-text other ≡ gives d
     → Respelled c d → SameAnswers text other

@@ -49,6 +49,6 @@ EitherAccepted = (c d : Command) → Respelled c d → Within c → Valid d → 
 abbrev pub FullFits : Type 0
 FullFits = (c : Command) → Valid c → Valid (in-full c)
 
--- They have the same record count, D and n.
+-- Commands that differ in constants' widths alone have the same record count, D and n.
 abbrev pub SameSizes : Type 0
 SameSizes = (c d : Command) → Respelled c d → sizes c ≡ sizes d

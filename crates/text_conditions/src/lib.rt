@@ -163,9 +163,9 @@ fn two_expressions(text: &[u8], at: usize, nest: usize, named: &mut [u8; VARIABL
     joined(first, expression(text, next, nest, named), 1, 1)
 }
 
-// What begins with none of the other bytes: a one-byte constant, or no expression. Of the bytes from 10 to 13 only 13
-// is left. (With a test of equality here the four bytes become a table of jumps, and reading is slower by a tenth.)
-fn last_expression(text: &[u8], at: usize) -> PartReading
+// What begins with none of the other bytes: a one-byte constant, since of 10 to 13 only 13 is left, or no expression.
+// (With a test of equality here the four bytes become a table of jumps, and reading is slower by a tenth.)
+fn one_byte_constant(text: &[u8], at: usize) -> PartReading
     requires { ⌜ at < length (now text) ⌝ }
     requires { ⌜ (getD (now text) at 0 ≡ 0x10 → ⊥) ⌝ }
     requires { ⌜ (getD (now text) at 0 ≡ 0x11 → ⊥) ⌝ }
@@ -199,7 +199,7 @@ pub fn expression(text: &[u8], at: usize, nest: usize, named: &mut [u8; VARIABLE
         CONSTANT => constant(text, at),
         VARIABLE => variable(text, at + 1, named),
         PLUS => two_expressions(text, at, nest - 1, named),
-        _ => last_expression(text, at),
+        _ => one_byte_constant(text, at),
     }
 }
 

@@ -51,11 +51,14 @@ unfolding width-of
 is-constant (inl e) = rw e (heads.is-constant refl)
 is-constant (inr e) = rw e (heads.is-one-byte-constant refl)
 
--- Where a constant was read, this is it.
+-- Where a constant was read, as a and up to n, this is it.
+abbrev pub ConstantRead : List ℕ → ℕ → ℕ → Expression → ℕ → Type 0
+ConstantRead text nest i =
+    text-says.Leaf text (expression text nest i) (1 + constant-width (getD text i 0)) i
+    (Constant (width-of (getD text i 0)) (constant-at text i .value))
+
 pub constant-read : (text : List ℕ) (nest i : ℕ) {a : Expression} {n : ℕ} → expression text nest i ≡ ok a n
-    → Begins (getD text i 0)
-    → text-says.Leaf text (expression text nest i) (1 + constant-width (getD text i 0)) i
-    (Constant (width-of (getD text i 0)) (constant-at text i .value)) a n
+    → Begins (getD text i 0) → ConstantRead text nest i a n
 constant-read text nest i e b = text-says.constant-at text nest i e (width-of (getD text i 0)) (is-constant b)
 
 -- Where something was read that is neither a variable nor a constant of four bytes: below 13 it is a Plus,

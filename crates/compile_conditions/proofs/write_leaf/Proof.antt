@@ -7,11 +7,9 @@ use lib.ListN.{getD}
 use mir.Syntax.{w32}
 use mir.Facts.{toZ-pos}
 use Rattle.word.proofs.Laws.{read-back}
-use Rattle.text.specs.Syntax.{Constant}
-use Rattle.text.specs.Reading.{expression}
 use Rattle.text.proofs.Opened as text-says
-use Rattle.text_shape.specs.Shape.{width-of, constant-width, constant-at}
-use Rattle.text_shape.proofs.Constants.{constant-read}
+use Rattle.text_shape.specs.Shape.{constant-at}
+use Rattle.text_shape.proofs.Constants.{ConstantRead, constant-read}
 use Rattle.record.specs.Records.{LOADI, LOAD, variable}
 use Rattle.record.specs.Bytes.{first-byte, operand}
 use Rattle.compile.specs.Compilation.{acomp}
@@ -52,8 +50,7 @@ module _ (s : tie.Start) (off : getD (s .args .text .now) (s .args .at) 0 ≡ 0x
   abbrev i : ℕ
   i = s .args .at
 
-  constant : text-says.Leaf text (expression text (s .args .nest) i) (1 + constant-width (getD text i 0)) i
-      (Constant (width-of (getD text i 0)) (constant-at text i .value)) (s .pre .1 .part) (s .pre .1 .next)
+  constant : ConstantRead text (s .args .nest) i (s .pre .1 .part) (s .pre .1 .next)
   constant =
       let neither = text-says.last-expression text (s .args .nest) i (s .pre .1 .is) off (s .pre .0) in
       constant-read text (s .args .nest) i (s .pre .1 .is) neither

@@ -8,13 +8,13 @@ use native.Mathlib.Omega.{arith}
 use lib.ListN.{getD}
 use Rattle.base.proofs.Cycles.{Member, twice, one-more, at, below, State, here}
 use Rattle.base.specs.Acts.{ok, then′}
-use Rattle.text.specs.Syntax.{Expression, Constant, Plus}
+use Rattle.text.specs.Syntax.{Expression, Plus}
 use Rattle.text.specs.Reading.{plus, pass, expression-of, expression}
 use Rattle.text.specs.Sizes.{expression-records}
 use Rattle.text.proofs.Heads as heads
 use Rattle.text.proofs.Opened as text-says
-use Rattle.text_shape.specs.Shape.{width-of, constant-width, constant-at}
-use Rattle.text_shape.proofs.Constants.{Begins, constant-read, last-sum, last-constant}
+use Rattle.text_shape.specs.Shape.{constant-width}
+use Rattle.text_shape.proofs.Constants.{Begins, ConstantRead, constant-read, last-sum, last-constant}
 use Rattle.text_conditions.specs.Code.{expression-parts}
 use Rattle.compile_sizes.specs.Parts.{Counts}
 use Rattle.compile_sizes.specs.declared.PartSize.{PartSize}
@@ -67,9 +67,7 @@ module _ (t : ℕ) where
     i = s .args .at
 
     -- a constant
-    constant : Begins (getD text i 0) → text-says.Leaf text (expression text (s .args .nest) i)
-        (1 + constant-width (getD text i 0)) i (Constant (width-of (getD text i 0)) (constant-at text i .value))
-        (s .pre .1 .part) (s .pre .1 .next)
+    constant : Begins (getD text i 0) → ConstantRead text (s .args .nest) i (s .pre .1 .part) (s .pre .1 .next)
     constant b = constant-read _ _ _ (s .pre .1 .is) b
 
     constant-told : (b : Begins (getD text i 0)) {r : PartSize} → r .next ≡ i + (1 + constant-width (getD text i 0))

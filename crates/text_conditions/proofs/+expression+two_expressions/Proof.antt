@@ -27,7 +27,7 @@ use Rattle.text_conditions.proofs.+expression+two_expressions.Lts-two_e
 use Rattle.text_conditions.proofs.PartReading.decline.Reads as decline-reads
 use Rattle.text_conditions.proofs.constant.Reads as constant-reads
 use Rattle.text_conditions.proofs.joined.Reads as joined-reads
-use Rattle.text_conditions.proofs.last_expression.Reads as last-expression-reads
+use Rattle.text_conditions.proofs.one_byte_constant.Reads as one-byte-constant-reads
 use Rattle.text_conditions.proofs.variable.Reads as variable-reads
 use Rattle.text_conditions.proofs.+expression+two_expressions.{statement}
 use Rattle.text_conditions.proofs.+expression+two_expressions.Tie.{close}
@@ -64,8 +64,8 @@ expression-claims t = (
   variable-reads.Learnt,
   below two-expressions t,
   two-expressions .post,
-  last-expression-reads.Asked,
-  last-expression-reads.Learnt,
+  one-byte-constant-reads.Asked,
+  one-byte-constant-reads.Learnt,
 )
 
 abbrev In-expression : ℕ → State expression expression-lts.Claims (Type 0) → Type 0
@@ -122,7 +122,7 @@ unfolding expression-of condition-of decline
     (λ c.
     let n : In-expression t expression-lts.Else2 = search in
     let h : In-expression t expression-lts.Else1 = search in
-    rw (heads.expression-at _ _ _ (h .if1 .left) (n .if2 .left)) (c .last-expression .ensures _ _)))
+    rw (heads.expression-at _ _ _ (h .if1 .left) (n .if2 .left)) (c .one-byte-constant .ensures _ _)))
     (λ t. two-expressions-lts.spec (two-expressions-claims t) (at two-expressions t) (two-expressions .post)
     (λ c. search needs)
     (λ c κs. search needs)  -- the first expression

@@ -1,5 +1,5 @@
--- `last_expression` meets its contract: a byte from 10 to 13 that is not 10, 11 or 12 is 13, and one outside begins no
--- expression.
+-- `one_byte_constant` meets its contract: a byte from 10 to 13 that is not 10, 11 or 12 is 13, and one outside begins
+-- no expression.
 use mathlib.Core.Path.{_≡_}
 use mathlib.Core.Logic.{inr}
 use Prim.Native.Nat.{ℕ, _≤_, _<_}
@@ -9,8 +9,8 @@ use Rattle.text.specs.Reading.{decline, expression-of}
 use Rattle.text.proofs.Heads.{is-no-expression}
 use Rattle.text_conditions.specs.Code.{expressions}
 use Rattle.text_conditions.proofs.Parts.{declines, constant-told}
-use Rattle.text_conditions.proofs.last_expression.Statement.{statement}
-use Rattle.text_conditions.proofs.last_expression.Tie as tie
+use Rattle.text_conditions.proofs.one_byte_constant.Statement.{statement}
+use Rattle.text_conditions.proofs.one_byte_constant.Tie as tie
 
 below : {b : ℕ} → b < 0x10 → b ≡ 0x13 → ⊥
 below h e = omega arith
@@ -21,9 +21,9 @@ above h e = omega arith
 thirteen : (b : ℕ) → 0x10 ≤ b → b ≤ 0x13 → (b ≡ 0x10 → ⊥) → (b ≡ 0x11 → ⊥) → (b ≡ 0x12 → ⊥) → b ≡ 0x13
 thirteen b l h n0 n1 n2 = omega arith
 
-pub last-expression-spec : {M : Type 1} → statement M
+pub one-byte-constant-spec : {M : Type 1} → statement M
 unfolding expression-of decline
-last-expression-spec =
+one-byte-constant-spec =
     tie.close
     (tie.spec
     (λ c. search needs)
