@@ -7,13 +7,13 @@ enum { DONE, SPENT, RANGE, SHORT, FULL, ASTRAY };
 enum { LOADI, LOAD, ADD, STORE, JMP, JMPLESS };
 
 /* `first` is the byte of LOADI. Slot i of the stack is bottom[way * i]; a name's cell is names[name]. The answer is
- * packed as the probes pack it: the end from bit 8, the count from bit 16. */
+ * packed as the probes pack it: the end from bit 8, the count from bit 16, the mark from bit 48. */
 static inline __attribute__((always_inline)) uint64_t run(uint8_t first, const uint8_t *code, size_t length,
                                                           int32_t *bottom, ptrdiff_t way, int32_t *names,
                                                           ptrdiff_t depth, uint32_t budget)
 {
     int64_t last = (int64_t)(length / 5), position = 0;
-    ptrdiff_t size = 0;
+    ptrdiff_t size = 0, mark = 0;
     uint32_t count = 0;
     uint64_t end = DONE;
 
@@ -34,7 +34,8 @@ static inline __attribute__((always_inline)) uint64_t run(uint8_t first, const u
                 goto out;
             }
             bottom[way * size] = operand;
-            size++;
+            if (++size > mark)
+                mark = size;
             break;
         case LOAD:
             if (size == depth) {
@@ -42,7 +43,8 @@ static inline __attribute__((always_inline)) uint64_t run(uint8_t first, const u
                 goto out;
             }
             bottom[way * size] = names[operand];
-            size++;
+            if (++size > mark)
+                mark = size;
             break;
         case ADD: {
             if (size < 2) {
@@ -105,7 +107,7 @@ static inline __attribute__((always_inline)) uint64_t run(uint8_t first, const u
         position = next;
     }
 out:
-    return end << 8 | (uint64_t)count << 16;
+    return end << 8 | (uint64_t)count << 16 | (uint64_t)mark << 48;
 }
 
 /* Cell j is address j - depth; the stack grows from -1 down. */

@@ -10,6 +10,7 @@ enum { DONE, SPENT, RANGE };
 struct run {
     int32_t *store;
     uint32_t left;
+    unsigned height, mark; /* the values on the stack, and the most that were */
     int end;
 };
 
@@ -23,6 +24,12 @@ static bool tick(struct run *run)
     return true;
 }
 
+static void push(struct run *run)
+{
+    if (++run->height > run->mark)
+        run->mark = run->height;
+}
+
 static const uint8_t *expression(struct run *run, const uint8_t *at, int32_t *value)
 {
     int32_t x, y;
@@ -31,21 +38,25 @@ static const uint8_t *expression(struct run *run, const uint8_t *at, int32_t *va
     case 0x10:
         if (!tick(run))
             return NULL;
+        push(run);
         memcpy(value, at + 1, 4);
         return at + 5;
     case 0x11:
         if (!tick(run))
             return NULL;
+        push(run);
         *value = run->store[at[1]];
         return at + 2;
     case 0x13:
         if (!tick(run))
             return NULL;
+        push(run);
         *value = (int8_t)at[1];
         return at + 2;
     default:
         if (!(at = expression(run, at + 1, &x)) || !(at = expression(run, at, &y)) || !tick(run))
             return NULL;
+        run->height--;
         if (__builtin_add_overflow(x, y, value)) {
             run->end = RANGE;
             return NULL;
@@ -116,6 +127,7 @@ static const uint8_t *condition(struct run *run, const uint8_t *at, bool flag, b
     default:
         if (!(at = expression(run, at + 1, &x)) || !(at = expression(run, at, &y)) || !tick(run))
             return NULL;
+        run->height -= 2;
         *value = x < y;
         return at;
     }
@@ -134,6 +146,7 @@ static const uint8_t *command(struct run *run, const uint8_t *at)
         const uint8_t *next = expression(run, at + 2, &z);
         if (!next || !tick(run))
             return NULL;
+        run->height--;
         run->store[at[1]] = z;
         return next;
     }
@@ -154,11 +167,11 @@ static const uint8_t *command(struct run *run, const uint8_t *at)
     }
 }
 
-/* The end from bit 8, the count from bit 16. */
+/* The end from bit 8, the count from bit 16, the mark from bit 48. */
 uint64_t plain_run_source(const uint8_t *text, int32_t *store, uint32_t budget)
 {
-    struct run run = {store, budget, DONE};
+    struct run run = {store, budget, 0, 0, DONE};
 
     command(&run, text);
-    return (uint64_t)run.end << 8 | (uint64_t)(budget - run.left) << 16;
+    return (uint64_t)run.end << 8 | (uint64_t)(budget - run.left) << 16 | (uint64_t)run.mark << 48;
 }

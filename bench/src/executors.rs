@@ -53,13 +53,14 @@ fn jump(position: usize, operand: i32, last: usize) -> Result<usize, End> {
     Ok(target as usize)
 }
 
-/// One record at a position: the next position. `size` is the stack's.
+/// One record at a position: the next position. `size` is the stack's, `mark` the most that it was.
 #[inline(always)]
 fn step(
     first: u8,
     record: &[u8],
     memory: &mut impl Memory,
     size: &mut usize,
+    mark: &mut usize,
     depth: usize,
     position: usize,
     last: usize,
@@ -72,6 +73,7 @@ fn step(
             }
             *memory.slot(*size) = if kind == 0 { operand } else { *memory.named(operand) };
             *size += 1;
+            *mark = (*mark).max(*size);
             Ok(position + 1)
         }
         2 => {
@@ -104,9 +106,9 @@ fn step(
     }
 }
 
-/// The end from bit 8, the count from bit 16.
+/// The end from bit 8, the count from bit 16, the mark from bit 48.
 fn run(first: u8, code: &[u8], memory: &mut impl Memory, depth: usize, budget: u32) -> u64 {
-    let (last, mut position, mut size, mut count) = (code.len() / 5, 0, 0, 0);
+    let (last, mut position, mut size, mut mark, mut count) = (code.len() / 5, 0, 0, 0, 0);
     let end = loop {
         if position == last {
             break End::Done;
@@ -115,12 +117,12 @@ fn run(first: u8, code: &[u8], memory: &mut impl Memory, depth: usize, budget: u
             break End::Spent;
         }
         count += 1;
-        match step(first, &code[5 * position..5 * position + 5], memory, &mut size, depth, position, last) {
+        match step(first, &code[5 * position..5 * position + 5], memory, &mut size, &mut mark, depth, position, last) {
             Ok(next) => position = next,
             Err(end) => break end,
         }
     };
-    (end as u64) << 8 | (count as u64) << 16
+    (end as u64) << 8 | (count as u64) << 16 | (mark as u64) << 48
 }
 
 pub fn run_machine(code: &[u8], memory: &mut [i32], depth: usize, budget: u32) -> u64 {

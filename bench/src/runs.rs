@@ -24,30 +24,32 @@ extern "C" {
 
 const CALLS: u32 = 20_000;
 
-fn spent(budget: u32) -> Ran {
-    Ran { end: End::Spent, count: budget }
+/// Spent at the budget; each of these loops comes to its deepest expression, so its mark is the text's D.
+fn spent(text: &[u8], budget: u32) -> Ran {
+    let Answer::Gives(sizes) = calls::read(text) else { panic!("not read") };
+    Ran { end: End::Spent, count: budget, mark: sizes.depth }
 }
 
-/// Spent at the budget, as the plain code packs it.
-fn plain_spent(budget: u32) -> u64 {
-    1 << 8 | (budget as u64) << 16
+/// The same as the plain code packs it.
+fn plain_spent(text: &[u8], budget: u32) -> u64 {
+    1 << 8 | (budget as u64) << 16 | (spent(text, budget).mark as u64) << 48
 }
 
 type Store = [i32; 64];
 
 fn walk_proved(text: &[u8], store: &mut Store, ticks: u32) {
     *store = [0; 64];
-    assert_eq!(calls::run_source(text, store, ticks), Answer::Gives(spent(ticks)));
+    assert_eq!(calls::run_source(text, store, ticks), Answer::Gives(spent(text, ticks)));
 }
 
 fn walk_rust(text: &[u8], store: &mut Store, ticks: u32) {
     *store = [0; 64];
-    assert_eq!(walker::run(text, store, ticks), spent(ticks));
+    assert_eq!(walker::run(text, store, ticks), spent(text, ticks));
 }
 
 fn walk_c(text: &[u8], store: &mut Store, ticks: u32) {
     *store = [0; 64];
-    assert_eq!(unsafe { plain_run_source(text.as_ptr(), store.as_mut_ptr(), ticks) }, plain_spent(ticks));
+    assert_eq!(unsafe { plain_run_source(text.as_ptr(), store.as_mut_ptr(), ticks) }, plain_spent(text, ticks));
 }
 
 pub fn source(loops: &[Text], ticks: u32) {
@@ -87,18 +89,18 @@ pub fn assembly(loops: &[Text], ticks: u32) {
             &mut || {
                 proved = [0; 64];
                 let ran = calls::run_assembly(&code, &mut proved, &mut stack, ticks);
-                assert_eq!(ran, Answer::Gives(spent(ticks)));
+                assert_eq!(ran, Answer::Gives(spent(text, ticks)));
             },
             &mut || {
                 rust = [0; 64];
                 let ran = executors::run_assembly(&code, &mut rust, &mut rust_stack, ticks);
-                assert_eq!(ran, plain_spent(ticks));
+                assert_eq!(ran, plain_spent(text, ticks));
             },
             &mut || {
                 c = [0; 64];
                 let (store, stack_at) = (c.as_mut_ptr(), c_stack.as_mut_ptr());
                 let ran = unsafe { plain_run_assembly(code.as_ptr(), code.len(), store, stack_at, depth, ticks) };
-                assert_eq!(ran, plain_spent(ticks));
+                assert_eq!(ran, plain_spent(text, ticks));
             },
         ]);
         assert_eq!((proved, proved), (rust, c));
@@ -116,16 +118,16 @@ pub fn machine(what: &str, loops: &[Text], ticks: u32) {
             &mut || {
                 proved.fill(0);
                 let ran = calls::run_machine(&code, &mut proved, depth as u64, cells as u64, ticks);
-                assert_eq!(ran, Answer::Gives(spent(ticks)));
+                assert_eq!(ran, Answer::Gives(spent(text, ticks)));
             },
             &mut || {
                 rust.fill(0);
-                assert_eq!(executors::run_machine(&code, &mut rust, depth, ticks), plain_spent(ticks));
+                assert_eq!(executors::run_machine(&code, &mut rust, depth, ticks), plain_spent(text, ticks));
             },
             &mut || {
                 c.fill(0);
                 let ran = unsafe { plain_run_machine(code.as_ptr(), code.len(), c.as_mut_ptr(), depth, ticks) };
-                assert_eq!(ran, plain_spent(ticks));
+                assert_eq!(ran, plain_spent(text, ticks));
             },
         ]);
         assert_eq!((&proved, &proved), (&rust, &c));

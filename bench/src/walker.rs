@@ -7,14 +7,17 @@ struct Walker<'a> {
     text: &'a [u8],
     store: &'a mut [i32],
     left: u32,
+    /// The values on the stack, and the most that were.
+    height: usize,
+    mark: usize,
     /// Where the part that starts at a position ends; 0 as long as it is not known.
     ends: Vec<u16>,
 }
 
 pub fn run(text: &[u8], store: &mut [i32], budget: u32) -> Ran {
-    let mut walker = Walker { text, store, left: budget, ends: vec![0; text.len()] };
+    let mut walker = Walker { text, store, left: budget, height: 0, mark: 0, ends: vec![0; text.len()] };
     let end = walker.command(0).err().unwrap_or(End::Done);
-    Ran { end, count: budget - walker.left }
+    Ran { end, count: budget - walker.left, mark: walker.mark as u8 }
 }
 
 impl Walker<'_> {
@@ -26,26 +29,35 @@ impl Walker<'_> {
         Ok(())
     }
 
+    fn push(&mut self) {
+        self.height += 1;
+        self.mark = self.mark.max(self.height);
+    }
+
     /// The value, and the position after the expression.
     fn expression(&mut self, at: usize) -> Result<(i32, usize), End> {
         match self.text[at] {
             0x10 => {
                 self.tick()?;
+                self.push();
                 let bytes = self.text[at + 1..at + 5].try_into().unwrap();
                 Ok((i32::from_le_bytes(bytes), at + 5))
             }
             0x11 => {
                 self.tick()?;
+                self.push();
                 Ok((self.store[self.text[at + 1] as usize], at + 2))
             }
             0x13 => {
                 self.tick()?;
+                self.push();
                 Ok((self.text[at + 1] as i8 as i32, at + 2))
             }
             _ => {
                 let (x, middle) = self.expression(at + 1)?;
                 let (y, next) = self.expression(middle)?;
                 self.tick()?;
+                self.height -= 1;
                 Ok((x.checked_add(y).ok_or(End::OutOfRange)?, next))
             }
         }
@@ -73,6 +85,7 @@ impl Walker<'_> {
                 let (x, middle) = self.expression(at + 1)?;
                 let (y, next) = self.expression(middle)?;
                 self.tick()?;
+                self.height -= 2;
                 Ok((x < y, next))
             }
         }
@@ -85,6 +98,7 @@ impl Walker<'_> {
             0x01 => {
                 let (z, next) = self.expression(at + 2)?;
                 self.tick()?;
+                self.height -= 1;
                 self.store[self.text[at + 1] as usize] = z;
                 Ok(next)
             }

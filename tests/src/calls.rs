@@ -97,6 +97,7 @@ pub enum End {
 pub struct Ran {
     pub end: End,
     pub count: u32,
+    pub mark: u8,
 }
 
 /// The answer in bits 0 to 39: a refusal, or what `result` reads from the number.
@@ -113,7 +114,7 @@ fn sizes(packed: u64) -> Sizes {
 }
 
 fn ran(packed: u64) -> Ran {
-    assert_eq!(packed >> 48, 0, "bits above the packing: {packed:#x}");
+    assert_eq!(packed >> 56, 0, "bits above the packing: {packed:#x}");
     let end = match (packed >> 8) as u8 {
         0 => End::Done,
         1 => End::Spent,
@@ -123,7 +124,7 @@ fn ran(packed: u64) -> Ran {
         5 => End::Astray,
         other => panic!("no end has number {other}"),
     };
-    Ran { end, count: (packed >> 16) as u32 }
+    Ran { end, count: (packed >> 16) as u32, mark: (packed >> 48) as u8 }
 }
 
 fn count(packed: u64) -> usize {

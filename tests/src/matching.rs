@@ -22,9 +22,9 @@ pub fn count(result: Result<usize, model::Refusal>) -> Answer<usize> {
     answer(result, |n| n)
 }
 
-pub fn ran(result: Result<(model::End, u32), model::Refusal>) -> Answer<Ran> {
-    answer(result, |(end, count)| {
-        let end = match end {
+pub fn ran(result: Result<model::Ran, model::Refusal>) -> Answer<Ran> {
+    answer(result, |ran| {
+        let end = match ran.end {
             model::End::Done => End::Done,
             model::End::Spent => End::Spent,
             model::End::OutOfRange => End::OutOfRange,
@@ -32,6 +32,6 @@ pub fn ran(result: Result<(model::End, u32), model::Refusal>) -> Answer<Ran> {
             model::End::Full => End::Full,
             model::End::Astray => End::Astray,
         };
-        Ran { end, count }
+        Ran { end, count: ran.count, mark: ran.mark as u8 }
     })
 }

@@ -134,11 +134,21 @@ pub enum End {
     Astray,
 }
 
-/// A run of the source rules: its store, its count, its budget.
+/// What a run tells; the mark (W2) is the most values that the stack held during the run.
+#[derive(Clone, Copy, Debug, PartialEq, Eq)]
+pub struct Ran {
+    pub end: End,
+    pub count: u32,
+    pub mark: usize,
+}
+
+/// A run of the source rules: its store, its count, its budget; the values on the stack, and the most that there were.
 struct Source<'a> {
     store: &'a mut [i32],
     count: u32,
     budget: u32,
+    height: usize,
+    mark: usize,
 }
 
 impl Source<'_> {
@@ -150,13 +160,28 @@ impl Source<'_> {
         Ok(())
     }
 
+    /// W2: "a tick of a constant or variable adds one value, a sum or store takes one off, Less two".
+    fn add_one(&mut self) {
+        self.height += 1;
+        self.mark = self.mark.max(self.height);
+    }
+
     fn value(&mut self, expression: &Expression) -> Result<i32, End> {
         match expression {
-            Expression::Constant(z) => self.tick().map(|()| *z),
-            Expression::Variable(v) => self.tick().map(|()| self.store[*v as usize]),
+            Expression::Constant(z) => {
+                self.tick()?;
+                self.add_one();
+                Ok(*z)
+            }
+            Expression::Variable(v) => {
+                self.tick()?;
+                self.add_one();
+                Ok(self.store[*v as usize])
+            }
             Expression::Plus(left, right) => {
                 let (x, y) = (self.value(left)?, self.value(right)?);
                 self.tick()?;
+                self.height -= 1;
                 x.checked_add(y).ok_or(End::OutOfRange)
             }
         }
@@ -175,6 +200,7 @@ impl Source<'_> {
             Condition::Less(left, right) => {
                 let (x, y) = (self.value(left)?, self.value(right)?);
                 self.tick()?;
+                self.height -= 2;
                 Ok(x < y)
             }
         }
@@ -186,6 +212,7 @@ impl Source<'_> {
             Command::Assign(v, expression) => {
                 let z = self.value(expression)?;
                 self.tick()?;
+                self.height -= 1;
                 self.store[*v as usize] = z;
                 Ok(())
             }
@@ -212,14 +239,14 @@ impl Source<'_> {
     }
 }
 
-pub fn run_source(text: &[u8], store: &mut [i32], budget: u32) -> Result<(End, u32), Refusal> {
+pub fn run_source(text: &[u8], store: &mut [i32], budget: u32) -> Result<Ran, Refusal> {
     let command = read_text(text)?;
     if store.len() != 64 {
         return Err(Refusal(8, 0));
     }
-    let mut run = Source { store, count: 0, budget };
+    let mut run = Source { store, count: 0, budget, height: 0, mark: 0 };
     let end = run.execute(&command).err().unwrap_or(End::Done);
-    Ok((end, run.count))
+    Ok(Ran { end, count: run.count, mark: run.mark })
 }
 
 // ---- Records and compilation
@@ -486,14 +513,15 @@ impl Memory for Cells<'_> {
     }
 }
 
-fn run(code: &[Record], memory: &mut dyn Memory, depth: usize, budget: u32) -> (End, u32) {
-    let (mut position, mut size, mut count) = (0, 0, 0);
-    loop {
+fn run(code: &[Record], memory: &mut dyn Memory, depth: usize, budget: u32) -> Ran {
+    let (mut position, mut size, mut count, mut mark) = (0, 0, 0, 0);
+    let end = loop {
+        mark = mark.max(size);
         if position == code.len() {
-            return (End::Done, count);
+            break End::Done;
         }
         if count == budget {
-            return (End::Spent, count);
+            break End::Spent;
         }
         count += 1;
         let record = code[position];
@@ -503,7 +531,7 @@ fn run(code: &[Record], memory: &mut dyn Memory, depth: usize, budget: u32) -> (
             _ => 0,
         };
         if size < needs {
-            return (End::Short, count);
+            break End::Short;
         }
         let pushed = match record {
             Loadi(z) => Some(z),
@@ -512,7 +540,7 @@ fn run(code: &[Record], memory: &mut dyn Memory, depth: usize, budget: u32) -> (
         };
         if let Some(z) = pushed {
             if size == depth {
-                return (End::Full, count);
+                break End::Full;
             }
             *memory.slot(size) = z;
             (position, size) = (position + 1, size + 1);
@@ -521,7 +549,7 @@ fn run(code: &[Record], memory: &mut dyn Memory, depth: usize, budget: u32) -> (
         let jump = match record {
             Add => {
                 let Some(z) = memory.slot(size - 2).checked_add(*memory.slot(size - 1)) else {
-                    return (End::OutOfRange, count);
+                    break End::OutOfRange;
                 };
                 *memory.slot(size - 2) = z;
                 (position, size) = (position + 1, size - 1);
@@ -539,13 +567,14 @@ fn run(code: &[Record], memory: &mut dyn Memory, depth: usize, budget: u32) -> (
         };
         let target = position as i64 + 1 + jump.map_or(0, i64::from);
         if target < 0 || target > code.len() as i64 {
-            return (End::Astray, count);
+            break End::Astray;
         }
         (position, size) = (target as usize, size - needs);
-    }
+    };
+    Ran { end, count, mark }
 }
 
-pub fn run_assembly(code: &[u8], store: &mut [i32], stack: &mut [i32], budget: u32) -> Result<(End, u32), Refusal> {
+pub fn run_assembly(code: &[u8], store: &mut [i32], stack: &mut [i32], budget: u32) -> Result<Ran, Refusal> {
     whole(code)?;
     if store.len() != 64 {
         return Err(Refusal(8, 0));
@@ -566,7 +595,7 @@ fn fits(depth: u64, n: u64, memory: &[i32]) -> Result<(), Refusal> {
     Ok(())
 }
 
-pub fn run_machine(code: &[u8], memory: &mut [i32], depth: u64, n: u64, budget: u32) -> Result<(End, u32), Refusal> {
+pub fn run_machine(code: &[u8], memory: &mut [i32], depth: u64, n: u64, budget: u32) -> Result<Ran, Refusal> {
     whole(code)?;
     let records = records(code, 0x50, 1..=n)?;
     fits(depth, n, memory)?;
@@ -639,14 +668,14 @@ pub fn show(text: &[u8]) -> String {
         writeln!(out, "{position} {} | {}", spelled(record, ""), spelled(machine, "M")).unwrap();
     }
     let mut store = [0; 64];
-    let (end, count) = run_source(text, &mut store, 1_000_000).unwrap();
-    let end = match end {
+    let ran = run_source(text, &mut store, 1_000_000).unwrap();
+    let end = match ran.end {
         End::Done => "done",
         End::Spent => "spent",
         End::OutOfRange => "range",
         other => panic!("a source run ended {other:?}"),
     };
-    writeln!(out, "run {end} {count}").unwrap();
+    writeln!(out, "run {end} {}", ran.count).unwrap();
     for (v, value) in store.iter().enumerate().filter(|(v, _)| table[*v] != 0) {
         writeln!(out, "{v} {value}").unwrap();
     }

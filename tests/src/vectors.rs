@@ -113,6 +113,7 @@ impl Call {
                 other => panic!("no end is called {other}"),
             },
             count: call.output("count") as u32,
+            mark: call.output("mark") as u8,
         })
     }
 }

@@ -2,7 +2,7 @@
 use Prim.Native.Nat.{ℕ}
 use Rattle.base.specs.Answers.{Answer, gives, refused}
 use Rattle.base.specs.Ends as Ends
-use Rattle.base.specs.Ends.{Ran}
+use Rattle.base.specs.Ends.{Ran, ran}
 use Rattle.base.specs.declared.End.{End}
 use Rattle.base.specs.declared.End.the-variants.{Done, Spent, OutOfRange, Short, Full, Astray}
 use Rattle.base.specs.declared.Run.{Run}
@@ -18,10 +18,10 @@ end-of Short = Ends.fault Ends.short
 end-of Full = Ends.fault Ends.full
 end-of Astray = Ends.fault Ends.astray
 
--- A run: its end and its count
+-- A run: its end, its count and its mark
 abbrev pub run-answer : Run → Answer Ran
 run-answer (RefusedRun r) = refused (r .number) (r .place)
-run-answer (Ended e count) = gives (record { end = end-of e; count = count })
+run-answer (Ended e count mark) = gives (ran (end-of e) count mark)
 
 -- A count
 abbrev pub count-answer : Count → Answer ℕ

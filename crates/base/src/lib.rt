@@ -1,6 +1,9 @@
 // The forms in which everything above is written stand in specs/: acts one after the other, ends of runs,
-// answers of calls. Here are the types by which code gives them.
+// answers of calls. Here are the types by which code gives them, and the copying of lent slices.
 ghost use mathlib.Core.Path.{_≡_};
+ghost use mathlib.Core.List.{_++_};
+ghost use Prim.Native.Nat.{_≤_};
+ghost use lib.ListN.{length, drop};
 ghost use Rattle.base.specs.Answers.{refused};
 ghost use Rattle.base.specs.Code.{run-answer, count-answer};
 
@@ -26,10 +29,11 @@ pub struct Refusal {
     pub place: usize,
 }
 
-// The answer of a call that runs: a refusal, or the run's end and count.
+// The answer of a call that runs: a refusal, or the run's end, its count and its mark, the most values that its stack
+// held.
 pub enum Run {
     Refused(Refusal),
-    Ended { end: End, count: u32 },
+    Ended { end: End, count: u32, mark: usize },
 }
 
 // The answer of a call that gives a count: a refusal, or the count.
@@ -51,5 +55,30 @@ impl Count {
         ensures { λ r. ⌜ count-answer r ≡ refused number place ⌝ }
     {
         Count::Refused(Refusal { number, place })
+    }
+}
+
+// Bytes written over the start of a buffer; what stands behind them stays.
+pub fn copy_bytes(bytes: &[u8], out: &mut [u8])
+    requires { ⌜ length (now bytes) ≤ length (now out) ⌝ }
+    ensures { λ _. ⌜ now (out .exit)
+        ≡ now (bytes .entry) ++ drop (length (now (bytes .entry))) (now (out .entry)) ⌝ }
+{
+    let mut i = 0;
+    while i < bytes.len() {
+        out[i] = bytes[i];
+        i += 1;
+    }
+}
+
+// Cells written over as many others.
+pub fn copy_cells(cells: &[i32], out: &mut [i32])
+    requires { ⌜ length (now cells) ≡ length (now out) ⌝ }
+    ensures { λ _. ⌜ now (out .exit) ≡ now (cells .entry) ⌝ }
+{
+    let mut i = 0;
+    while i < cells.len() {
+        out[i] = cells[i];
+        i += 1;
     }
 }

@@ -1,5 +1,6 @@
 // From machine records and their table back to assembly records.
 use base::Count;
+use base::copy_bytes;
 use compile::TABLE_BYTES;
 use compile_table::Named;
 use compile_translation::Direction;
@@ -11,7 +12,6 @@ ghost use Prim.Native.Nat.{ℕ, _<_, _≤_};
 ghost use lib.ListN.{length, getD, replicate};
 ghost use Rattle.base.specs.Answers.{gives, and-then};
 ghost use Rattle.base.specs.Code.{count-answer};
-ghost use Rattle.record.specs.Bytes.{over};
 ghost use Rattle.compile.specs.Table as Table;
 ghost use Rattle.compile.specs.Calls as Calls;
 ghost use Rattle.compile_back.specs.Steps as Steps;
@@ -32,18 +32,6 @@ fn invert(table: &[u8], names: &mut [u8])
         v -= 1;
         let a = table[v] as usize;
         names[a] = v as u8;
-    }
-}
-
-// Bytes over the start of a buffer.
-fn copy(bytes: &[u8], out: &mut [u8])
-    requires { ⌜ length (now bytes) ≤ length (now out) ⌝ }
-    ensures { λ _. ⌜ now (out .exit) ≡ over (now (bytes .entry)) (now (out .entry)) ⌝ }
-{
-    let mut i = 0;
-    while i < bytes.len() {
-        out[i] = bytes[i];
-        i += 1;
     }
 }
 
@@ -86,7 +74,7 @@ pub fn go_back(code: &[u8], table: &[u8], out: &mut [u8]) -> Count
             let count = code.len() / RECORD_BYTES;
             let mut names = [0u8; ADDRESSES];
             invert(table, &mut names);
-            copy(code, out);
+            copy_bytes(code, out);
             rename_records(out, count, Direction::ToAssembly(n), &names);
             Count::Gives(count)
         }

@@ -1,6 +1,6 @@
--- Demand 3 (Demand3: Demand3, Fitted, AssemblyFitted): the four calls come to the machine's run (Rows), which has the
--- source rules' result (Memories); the customer's wording follows from the equality.
-use mathlib.Core.Path.{_≡_, refl, sym, _∙_, ap}
+-- Demand 3 (Demand3: Demand3, Fitted, AssemblyFitted, OneMark, RowsFitted): the four calls come to the machine's run
+-- (Rows), which has the source rules' result (Memories); the customer's wording follows from the equality.
+use mathlib.Core.Path.{_≡_, refl, sym, _∙_, ap, subst}
 use mathlib.Core.Logic.{_⊎_, inl, inr, _↔_}
 use Prim.Native.Nat.{ℕ, _+_, _*_, _-_, _≤_}
 use native.Mathlib.Omega.{arith}
@@ -10,7 +10,7 @@ use lib.ListN.{length}
 use borrow.Author.Tests.{eq-eqb, le-leb}
 use Rattle.base.specs.Acts.{ok, ended}
 use Rattle.base.specs.Answers.{Answer, gives, and-then, settle}
-use Rattle.base.specs.Ends.{Fault, End, fault, Result, Ran, report}
+use Rattle.base.specs.Ends.{Fault, End, fault, Result, Ran, ran, report}
 use Rattle.base.proofs.Answers.{gives-one}
 use Rattle.word.specs.Sums.{SumRule, sum32}
 use Rattle.text.specs.Syntax.{Command}
@@ -19,7 +19,7 @@ use Rattle.text.specs.Encoding.{Bytes, Within}
 use Rattle.text.specs.Sizes.{depth, cells}
 use Rattle.text.proofs.Accepted.{accepted}
 use Rattle.text.proofs.Limits.{short, shallow}
-use Rattle.source.specs.Rules.{Early, Store, Outcomes, state, exec, end-of, result-of, run-rules}
+use Rattle.source.specs.Rules.{Early, Store, Outcomes, start, exec, end-of, result-of, run-rules}
 use Rattle.source.specs.Calls.{run-source}
 use Rattle.source.proofs.Calls.{source-runs}
 use Rattle.record.specs.Bytes.{assembly-kind, code-bytes}
@@ -37,7 +37,7 @@ use Rattle.fitting.specs.Loading.{loaded}
 use Rattle.fitting.specs.Rows.{four-calls, Lent}
 use Rattle.fitting.specs.Simulation.{seen}
 use Rattle.fitting.specs.Demand3.{Ready, MachineEnds, RulesEnd, Alike, Demand3, Fitted, AssemblyFitted}
-use Rattle.fitting.specs.Demand3.{RowsFitted}
+use Rattle.fitting.specs.Demand3.{RowsFitted, OneMark}
 use Rattle.fitting.proofs.Memories.{assembled, translated}
 use Rattle.fitting.proofs.Counts.{ticked}
 use Rattle.fitting.proofs.Rows.{same-length, in-a-row, whole-row}
@@ -61,6 +61,14 @@ module _ (text : List ℕ) (bytes : Bytes text) (c : Command) (read : read-text 
   rules-same : run-source text store budget ≡ (gives (report budget rules), rules .leaves)
   rules-same = source-runs text c store budget read (ready .store-cells)
 
+  -- the machine's mark is D at most, and so the rules'
+  mark-low : rules .mark ≤ depth c
+  mark-low =
+      subst (λ (r : Result Store). r .mark ≤ depth c)
+      (translated sum32 c (within .valid) store (ready .store-cells) budget)
+      (inside sum32 (depth c) (machine-cells (depth c)) (to-m-prog (ccomp c)) budget
+      (loaded (table (ccomp c)) (depth c) (cells c) store) .2)
+
 pub fitted : Fitted
 fitted text bytes c read lent memory store ready budget =
     let r = run-rules sum32 c budget store in (
@@ -73,22 +81,19 @@ fitted text bytes c read lent memory store ready budget =
 -- ---- In the customer's words
 
 -- the two sides tell the same, once both are known
-alike : (text : List ℕ) (lent : Compiled) (memory : List ℤ) (store : Store) (budget : ℕ) (ran : Ran) (u : Store)
-    → four-calls text lent memory store budget ≡ gives (ran, u) → run-source text store budget ≡ (gives ran, u)
-    → (e : End) (k : ℕ) (t : Store)
-    → MachineEnds text lent memory store budget e k t ↔ RulesEnd text store budget e k t
-alike text lent memory store budget ran u m r e k t = (to, back)
+alike : (text : List ℕ) (lent : Compiled) (memory : List ℤ) (store : Store) (budget : ℕ) (x : Ran) (u : Store)
+    → four-calls text lent memory store budget ≡ gives (x, u) → run-source text store budget ≡ (gives x, u)
+    → (e : End) (k μ : ℕ) (t : Store)
+    → MachineEnds text lent memory store budget e k μ t ↔ RulesEnd text store budget e k μ t
+alike text lent memory store budget x u m r e k μ t = (to, back)
   where
-    told : Ran
-    told = record { end = e; count = k }
+    to : MachineEnds text lent memory store budget e k μ t → RulesEnd text store budget e k μ t
+    to d = r ∙ ap (λ (x : Ran × Store). (gives (x .0), x .1)) (gives-one (x, u) (ran e k μ, t) (sym m ∙ d))
 
-    to : MachineEnds text lent memory store budget e k t → RulesEnd text store budget e k t
-    to h = r ∙ ap (λ (x : Ran × Store). (gives (x .0), x .1)) (gives-one (ran, u) (told, t) (sym m ∙ h))
-
-    back : RulesEnd text store budget e k t → MachineEnds text lent memory store budget e k t
-    back h =
-        let same : _≡_ {A = Answer Ran × Store} (gives ran, u) (gives told, t) = sym r ∙ h in
-        let first : ran ≡ told = gives-one ran told (ap (λ (x : Answer Ran × Store). x .0) same) in
+    back : RulesEnd text store budget e k μ t → MachineEnds text lent memory store budget e k μ t
+    back d =
+        let same : _≡_ {A = Answer Ran × Store} (gives x, u) (gives (ran e k μ), t) = sym r ∙ d in
+        let first : x ≡ ran e k μ = gives-one x (ran e k μ) (ap (λ (x : Answer Ran × Store). x .0) same) in
         let second : u ≡ t = ap (λ (x : Answer Ran × Store). x .1) same in
         m ∙ (λ i. gives (first i, second i))
 
@@ -97,21 +102,22 @@ ends : (text : List ℕ) (lent : Compiled) (memory : List ℤ) (store : Store) (
     → let r = result-of x in four-calls text lent memory store budget ≡ gives (report budget r, r .leaves)
     → run-source text store budget ≡ (gives (report budget r), r .leaves)
     → (r .end ≡ End.spent → r .left ≡ 0)
-    → ((k : ℕ) × (t : Store) × (k ≤ budget) × MachineEnds text lent memory store budget End.done k t)
-    ⊎ ((k : ℕ) × (t : Store) × (k ≤ budget)
-    × MachineEnds text lent memory store budget (fault Fault.out-of-range) k t)
-    ⊎ ((t : Store) × MachineEnds text lent memory store budget End.spent budget t
-    × RulesEnd text store budget End.spent budget t)
+    → ((k : ℕ) × (μ : ℕ) × (t : Store) × (k ≤ budget) × MachineEnds text lent memory store budget End.done k μ t)
+    ⊎ ((k : ℕ) × (μ : ℕ) × (t : Store) × (k ≤ budget)
+    × MachineEnds text lent memory store budget (fault Fault.out-of-range) k μ t)
+    ⊎ ((μ : ℕ) × (t : Store) × MachineEnds text lent memory store budget End.spent budget μ t
+    × RulesEnd text store budget End.spent budget μ t)
 unfolding result-of end-of
-ends text lent memory store budget (ok a s) m r z = inl (budget - s .left, s .store, omega arith, m)
+ends text lent memory store budget (ok a s) m r z = inl (budget - s .left, s .mark, s .store, omega arith, m)
 ends text lent memory store budget (ended (Early.out-of-range, s)) m r z =
-    inr (inl (budget - s .left, s .store, omega arith, m))
+    inr (inl (budget - s .left, s .mark, s .store, omega arith, m))
 ends text lent memory store budget (ended (Early.spent, s)) m r z =
     let whole : budget - s .left ≡ budget = omega (arith, z refl) in
     inr (inr (
+      s .mark,
       s .store,
-      m ∙ ap (λ k. gives (record { end = End.spent; count = k }, s .store)) whole,
-      r ∙ ap (λ k. (gives (record { end = End.spent; count = k }), s .store)) whole,
+      m ∙ ap (λ k. gives (ran End.spent k (s .mark), s .store)) whole,
+      r ∙ ap (λ k. (gives (ran End.spent k (s .mark)), s .store)) whole,
     ))
 
 -- document 01's rule for sums does not look at the ticks left
@@ -129,11 +135,15 @@ demand3 text bytes c read lent memory store ready budget =
       done-alike = alike text lent memory store budget (report budget r) (r .leaves) m s End.done;
       range-alike =
           alike text lent memory store budget (report budget r) (r .leaves) m s (fault Fault.out-of-range);
-      one-of-three = ends text lent memory store budget (exec sum32 c (state budget store)) m s
+      one-of-three = ends text lent memory store budget (exec sum32 c (start budget store)) m s
           (ticked sum32 steady32 c budget store .spent-all);
       stack = λ steps.
           inside sum32 D (machine-cells D) (to-m-prog (ccomp c)) steps
           (loaded (table (ccomp c)) D (cells c) store) .1;
+      mark-within = λ e k μ t d.
+          subst (λ (x : Ran × Store). x .0 .mark ≤ D)
+          (gives-one (report budget r, r .leaves) (ran e k μ, t) (sym m ∙ d))
+          (mark-low text bytes c read lent memory store ready budget);
     }
 
 -- ---- Every lent buffer
@@ -173,7 +183,7 @@ assembly-fitted text bytes c read m deep long budget = rules ∙ sym (ap told ca
 
     same : seen (λ m. m .store) s ≡ run-rules sum32 c budget (m .store)
     same =
-        ap (λ D. seen (λ m. m .store) (run sum32 D assembly (ccomp c) budget (fresh m))) deep
+        ap (λ D. seen (λ m. m .store) (run sum32 D assembly (ccomp c) budget 0 (fresh m))) deep
         ∙ assembled sum32 c budget m deep
 
     rules : run-source text (m .store) budget ≡ (gives (report budget s), s .leaves .memory .store)
@@ -192,3 +202,18 @@ assembly-fitted text bytes c read m deep long budget = rules ∙ sym (ap told ca
 
     told : Answer Ran × Assembly → Answer Ran × Store
     told x = (x .0, x .1 .store)
+
+-- ---- All three
+
+pub one-mark : OneMark
+one-mark text bytes c read lent memory m ready deep budget =
+    let r = run-rules sum32 c budget (m .store) in
+    let s = rules-same text bytes c read lent memory (m .store) ready budget in
+    record {
+      tell = report budget r;
+      leave = r .leaves;
+      by-source = s;
+      by-assembly = sym (assembly-fitted text bytes c read m deep (ready .store-cells) budget) ∙ s;
+      by-machine = machine-same text bytes c read lent memory (m .store) ready budget;
+      never-above = mark-low text bytes c read lent memory (m .store) ready budget;
+    }

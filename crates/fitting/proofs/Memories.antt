@@ -43,7 +43,7 @@ assembled sum c budget m G =
 
 pub translated : (sum : SumRule) → Translated sum
 translated sum c h s e budget =
-    ap (seen (read-back t D s)) (run-map sum D f (machine-cells D) P budget (fresh m))
+    ap (seen (read-back t D s)) (run-map sum D f (machine-cells D) P budget 0 (fresh m))
     ∙ simulated sum Store D (addressed D n t distinct small (addr-of (vars P)) s) (read-back t D s) _ _
     (cells-laws D n t distinct small (addr-of (vars P)) s) c
     (record { each = λ p v r g k. let x = placed c h p v r g k in (omega (arith, x .0), x .1, x .2) })

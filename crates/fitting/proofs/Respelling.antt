@@ -15,7 +15,7 @@ use Rattle.text.specs.Sizes.{records, sizes}
 use Rattle.text.specs.Respelling.{Respelled}
 use Rattle.text.specs.Calls.{read-call}
 use Rattle.text.proofs.Respelling.{same-sizes}
-use Rattle.source.specs.Rules.{Store, state, result-of, run-rules}
+use Rattle.source.specs.Rules.{Store, start, result-of, run-rules}
 use Rattle.source.specs.Calls.{source-tests, run-source}
 use Rattle.source.proofs.Respelling.{same-runs}
 use Rattle.record.specs.Bytes.{assembly-kind, machine-kind, code-bytes, over}
@@ -40,7 +40,7 @@ module _ (text other : List ℕ) (c d : Command) (e : read-text text ≡ gives c
   code = same-records c d r
 
   run : (store : Store) (budget : ℕ) → run-rules sum32 c budget store ≡ run-rules sum32 d budget store
-  run store budget = ap (λ rule. result-of (rule (state budget store))) (same-runs sum32 c d r)
+  run store budget = ap (λ rule. result-of (rule (start budget store))) (same-runs sum32 c d r)
 
   -- ---- Each call
 

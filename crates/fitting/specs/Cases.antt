@@ -26,7 +26,7 @@ use Rattle.fitting.specs.Calls.{load, read-back-call}
 use Rattle.fitting.specs.Rows.{four-calls}
 
 -- A text and a budget; the assembly records; D; n; the addresses of x0, x1 and x2; and, starting from zeros, the end,
--- the count and x0
+-- the count, the mark and x0
 pub record Case : Type 0 where
   pub text : List ℕ
   pub budget : ℕ
@@ -36,10 +36,11 @@ pub record Case : Type 0 where
   pub addresses : List ℕ
   pub end : End
   pub count : ℕ
+  pub mark : ℕ
   pub x0 : ℤ
 
-abbrev pub case : List ℕ → ℕ → AssemblyCode → ℕ → ℕ → List ℕ → End → ℕ → ℤ → Case
-case text b P d n a e k x = record {
+abbrev pub case : List ℕ → ℕ → AssemblyCode → ℕ → ℕ → List ℕ → End → ℕ → ℕ → ℤ → Case
+case text b P d n a e k mark x = record {
   text = text;
   budget = b;
   records = P;
@@ -48,6 +49,7 @@ case text b P d n a e k x = record {
   addresses = a;
   end = e;
   count = k;
+  mark = mark;
   x0 = x;
 }
 
@@ -90,31 +92,31 @@ K·records = LOADI (pos 1) ∷ LOADI (pos 1) ∷ ADD ∷ LOADI (pos 1) ∷ ADD �
 
 -- ---- The table
 
--- text, budget, records, D, n, addresses of x0, x1 and x2, end, count, x0
+-- text, budget, records, D, n, addresses of x0, x1 and x2, end, count, mark, x0
 unfoldable pub cases : List Case
 cases =
-    case A·text 1000000 [] 0 0 (0 ∷ 0 ∷ 0 ∷ []) done 0 (pos 0)
-    ∷ case B·text 1000000 B·records 2 2 (1 ∷ 2 ∷ 0 ∷ []) done 4 (pos 5)
-    ∷ case B·text 4 B·records 2 2 (1 ∷ 2 ∷ 0 ∷ []) done 4 (pos 5)
-    ∷ case B·text 3 B·records 2 2 (1 ∷ 2 ∷ 0 ∷ []) spent 3 (pos 0)
-    ∷ case C·text 1000000 C·records 2 1 (1 ∷ 0 ∷ 0 ∷ []) done 27 (pos 3)
-    ∷ case D·text 1000000 D·records 1 1 (1 ∷ 0 ∷ 0 ∷ []) done 1 (pos 0)
-    ∷ case E·text 1000000 E·records 1 1 (1 ∷ 0 ∷ 0 ∷ []) done 3 (pos 1)
-    ∷ case F·text 1000000 F·records 2 0 (0 ∷ 0 ∷ 0 ∷ []) done 1 (pos 0)
-    ∷ case G·text 1000000 G·records 2 0 (0 ∷ 0 ∷ 0 ∷ []) (fault out-of-range) 3 (pos 0)
-    ∷ case H·text 1000000 H·records 2 1 (1 ∷ 0 ∷ 0 ∷ []) done 4 (negsuc 0)
-    ∷ case I·text 1000000 I·records 1 3 (3 ∷ 2 ∷ 1 ∷ []) done 4 (pos 0)
-    ∷ case J·text 0 J·records 0 0 (0 ∷ 0 ∷ 0 ∷ []) spent 0 (pos 0)
-    ∷ case J·text 1 J·records 0 0 (0 ∷ 0 ∷ 0 ∷ []) spent 1 (pos 0)
-    ∷ case J·text 1000 J·records 0 0 (0 ∷ 0 ∷ 0 ∷ []) spent 1000 (pos 0)
-    ∷ case K·text 1000000 K·records 2 1 (1 ∷ 0 ∷ 0 ∷ []) done 6 (pos 3)
+    case A·text 1000000 [] 0 0 (0 ∷ 0 ∷ 0 ∷ []) done 0 0 (pos 0)
+    ∷ case B·text 1000000 B·records 2 2 (1 ∷ 2 ∷ 0 ∷ []) done 4 2 (pos 5)
+    ∷ case B·text 4 B·records 2 2 (1 ∷ 2 ∷ 0 ∷ []) done 4 2 (pos 5)
+    ∷ case B·text 3 B·records 2 2 (1 ∷ 2 ∷ 0 ∷ []) spent 3 2 (pos 0)
+    ∷ case C·text 1000000 C·records 2 1 (1 ∷ 0 ∷ 0 ∷ []) done 27 2 (pos 3)
+    ∷ case D·text 1000000 D·records 1 1 (1 ∷ 0 ∷ 0 ∷ []) done 1 0 (pos 0)
+    ∷ case E·text 1000000 E·records 1 1 (1 ∷ 0 ∷ 0 ∷ []) done 3 1 (pos 1)
+    ∷ case F·text 1000000 F·records 2 0 (0 ∷ 0 ∷ 0 ∷ []) done 1 0 (pos 0)
+    ∷ case G·text 1000000 G·records 2 0 (0 ∷ 0 ∷ 0 ∷ []) (fault out-of-range) 3 2 (pos 0)
+    ∷ case H·text 1000000 H·records 2 1 (1 ∷ 0 ∷ 0 ∷ []) done 4 2 (negsuc 0)
+    ∷ case I·text 1000000 I·records 1 3 (3 ∷ 2 ∷ 1 ∷ []) done 4 1 (pos 0)
+    ∷ case J·text 0 J·records 0 0 (0 ∷ 0 ∷ 0 ∷ []) spent 0 0 (pos 0)
+    ∷ case J·text 1 J·records 0 0 (0 ∷ 0 ∷ 0 ∷ []) spent 1 0 (pos 0)
+    ∷ case J·text 1000 J·records 0 0 (0 ∷ 0 ∷ 0 ∷ []) spent 1000 0 (pos 0)
+    ∷ case K·text 1000000 K·records 2 1 (1 ∷ 0 ∷ 0 ∷ []) done 6 2 (pos 3)
     ∷ []
 
 -- a case as the definitions have it, its run telling r
 unfoldable pub measured : Case → Command → Ran → Store → Case
 measured k c r s =
     case (k .text) (k .budget) (ccomp c) (depth c) (cells c) (take 3 (table (ccomp c))) (r .end) (r .count)
-    (getD s 0 (pos 0))
+    (r .mark) (getD s 0 (pos 0))
 
 -- by the source rules
 unfoldable pub by-rules : Case → Command → Answer Case

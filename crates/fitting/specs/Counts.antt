@@ -1,6 +1,6 @@
 -- The count of a run of the source rules is the number of its ticks, and at most the budget. A run that is not spent
--- and has charged k ticks needs exactly k: under any budget of k or more it ends alike, with the rest of the budget
--- left, and under any smaller one it is spent. The proof of the same spelling stands in proofs/.
+-- and has charged k ticks needs exactly k: under any budget of k or more it ends alike, with the same mark and the rest
+-- of the budget left, and under any smaller one it is spent. The proof of the same spelling stands in proofs/.
 use mathlib.Core.Path.{_≡_}
 use Prim.Native.Nat.{ℕ, _+_, _≤_, _<_}
 use lib.IntN.{ℤ}
@@ -18,7 +18,7 @@ pub record Ticks (sum : SumRule) (c : Command) (n : ℕ) (s : Store) : Type 0 wh
   pub most : run-rules sum c n s .left ≤ n
   pub spent-all : run-rules sum c n s .end ≡ End.spent → run-rules sum c n s .left ≡ 0
   pub enough : (run-rules sum c n s .end ≡ End.spent → ⊥) → (k : ℕ) → k + run-rules sum c n s .left ≡ n → (more : ℕ)
-      → run-rules sum c (k + more) s ≡ result (run-rules sum c n s .end) more (run-rules sum c n s .leaves)
+      → let r = run-rules sum c n s in run-rules sum c (k + more) s ≡ result (r .end) more (r .mark) (r .leaves)
   pub fewer : (run-rules sum c n s .end ≡ End.spent → ⊥) → (k : ℕ) → k + run-rules sum c n s .left ≡ n
       → (j : ℕ) → j < k → run-rules sum c j s .end ≡ End.spent
 

@@ -55,7 +55,7 @@ unfoldable pub fit : List ℕ → Lent → ℕ → Answer Ran × Lent
 fit text l budget =
     answered ((do z ← compiling text; loading z; ran ← running z budget; reading-back z; give ran) l)
 
--- What demand 3 speaks of: the run's end and count and the store read back; or the first refusal
+-- What demand 3 speaks of: the run's end, count and mark and the store read back; or the first refusal
 unfoldable pub four-calls : List ℕ → Compiled → List ℤ → Store → ℕ → Answer (Ran × Store)
 four-calls text l memory store budget =
     let r = fit text (buffers (l .code) (l .table) memory store) budget in

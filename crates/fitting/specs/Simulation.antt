@@ -1,5 +1,5 @@
 -- Simulation: on any lawful memory and under any rule for sums, the records of a command do what the source rules say.
--- At every budget the end, the ticks left and the store are the same. Assembly and the pod machine are two such
+-- At every budget the end, the ticks left, the mark and the store are the same. Assembly and the pod machine are two such
 -- memories. The proof of the same spelling stands in proofs/.
 use mathlib.Core.Path.{_≡_}
 use Prim.Native.Nat.{ℕ, _≤_, _<_}
@@ -22,7 +22,7 @@ use Rattle.fitting.specs.Loading.{loaded, read-back}
 
 -- A machine's result as a result with the store that `view` sees in its memory
 abbrev pub seen : {M : Type 0} → (M → Store) → Result (Machine M) → Result Store
-seen view r = result (r .end) (r .left) (view (r .leaves .memory))
+seen view r = result (r .end) (r .left) (r .mark) (view (r .leaves .memory))
 
 -- What a memory with D stack slots owes. By `view` it stands for a store, of which it keeps the `Named` variables
 pub record Laws {M : Type 0} (D : ℕ) (o : Memory M Variable) (view : M → Store) (Good : M → Type 0)
@@ -45,12 +45,13 @@ Simulated sum = (M : Type 0) (D : ℕ) (o : Memory M Variable) (view : M → Sto
     (Named : Variable → Type 0)
     → Laws D o view Good Named → (c : Command) → Names (ccomp c) Named → depth c ≤ D
     → (budget : ℕ) (m : M) → Good m
-    → seen view (run sum D o (ccomp c) budget (fresh m)) ≡ run-rules sum c budget (view m)
+    → seen view (run sum D o (ccomp c) budget 0 (fresh m)) ≡ run-rules sum c budget (view m)
 
 -- Assembly, on a stack of D slots and a store, has the source rules' result.
 abbrev pub Assembled : SumRule → Type 0
 Assembled sum = (c : Command) (budget : ℕ) (m : Assembly) → length (m .stack) ≡ depth c
-    → seen (λ m. m .store) (run sum (depth c) assembly (ccomp c) budget (fresh m)) ≡ run-rules sum c budget (m .store)
+    → seen (λ m. m .store) (run sum (depth c) assembly (ccomp c) budget 0 (fresh m))
+    ≡ run-rules sum c budget (m .store)
 
 -- The store loaded, the machine code run from a fresh machine, the store read back
 abbrev pub on-machine : SumRule → Command → ℕ → Store → Result Store
@@ -58,7 +59,7 @@ on-machine sum c budget s =
     let t = table (ccomp c) in
     let D = depth c in
     seen (read-back t D s)
-    (run sum D (machine-cells D) (to-m-prog (ccomp c)) budget (fresh (loaded t D (cells c) s)))
+    (run sum D (machine-cells D) (to-m-prog (ccomp c)) budget 0 (fresh (loaded t D (cells c) s)))
 
 -- Machine code, loaded and read back, has the source rules' result.
 abbrev pub Translated : SumRule → Type 0

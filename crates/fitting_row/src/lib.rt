@@ -39,10 +39,12 @@ fn run_and_read_back(
     let cells = sizes.cells as u64;
     match machine_run::run_machine(&code[..size], memory, depth, cells, budget) {
         Run::Refused(refusal) => Run::Refused(refusal),
-        Run::Ended { end, count } => match fitting_load::read_back(table, memory, depth, store) {
-            Count::Refused(refusal) => Run::Refused(refusal),
-            Count::Gives(_) => Run::Ended { end, count },
-        },
+        Run::Ended { end, count, mark } => {
+            match fitting_load::read_back(table, memory, depth, store) {
+                Count::Refused(refusal) => Run::Refused(refusal),
+                Count::Gives(_) => Run::Ended { end, count, mark },
+            }
+        }
     }
 }
 

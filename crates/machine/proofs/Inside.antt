@@ -1,8 +1,8 @@
 -- A step keeps the position within the code, the stack within its depth, and of the memory whatever saving and poking
--- keep; and so does a run (Claims: Inside, Kept).
+-- keep; and so does a run, its mark staying within the depth too (Claims: Inside, Kept).
 -- `Goes x Q` says that Q holds of an outcome that is no fault.
 use mathlib.Core.Path.{_≡_, refl, subst}
-use Prim.Native.Nat.{ℕ, zero, suc, _≤_, _<_}
+use Prim.Native.Nat.{ℕ, zero, suc, _≤_, _<_, max}
 use native.Mathlib.Omega.{arith}
 use mathlib.Core.Bool.{Bool, true, false}
 use mathlib.Core.List.{List, [], _∷_}
@@ -139,36 +139,41 @@ module _ {M Name : Type 0} (sum : SumRule) (D : ℕ) (o : Memory M Name) (code :
   abbrev Fine : Machine M → Type 0
   Fine s = (s .position ≤ length code) × (s .size ≤ D) × Q (s .memory)
 
-  run-fine : (n : ℕ) (r : Option (Record Name)) (s : Machine M) → due sum D o code s ≡ r → Fine s
-      → Fine (run-at sum D o code n r s .leaves)
+  -- a result that leaves such a machine, its mark within the depth
+  abbrev Left : Result (Machine M) → Type 0
+  Left r = Fine (r .leaves) × (r .mark ≤ D)
+
+  run-fine : (n : ℕ) (r : Option (Record Name)) (μ : ℕ) (s : Machine M) → due sum D o code s ≡ r → Fine s → μ ≤ D
+      → Left (run-at sum D o code n r μ s)
   unfolding run-at
-  run-fine zero none s e h = h
-  run-fine (suc n) none s e h = h
-  run-fine zero (some r) s e h = h
-  run-fine (suc n) (some r) s e h =
+  run-fine zero none μ s e h l = (h, l)
+  run-fine (suc n) none μ s e h l = (h, l)
+  run-fine zero (some r) μ s e h l = (h, l)
+  run-fine (suc n) (some r) μ s e h l =
       pick (act (sum n) D o (length code) r s)
       (act-goes (sum n) D o (length code) Q K r (s .position) (s .size) (s .memory)
       (some-below code (s .position) r e) (h .1) (h .2))
-      (λ s′. run-fine n (due sum D o code s′) s′ refl)
+      (λ s′ f. run-fine n (due sum D o code s′) (max μ (s′ .size)) s′ refl f (omega (arith, f .1)))
     where
       again : Machine M → Result (Machine M)
-      again s′ = run-at sum D o code n (due sum D o code s′) s′
+      again s′ = run-at sum D o code n (due sum D o code s′) (max μ (s′ .size)) s′
 
       pick : (x : Outcome (Machine M) Fault (Unit {0})) → Goes x (λ _. Fine)
-          → ((s′ : Machine M) → Fine s′ → Fine (again s′ .leaves))
-          → Fine (after x again (λ e. result (fault e) n s) .leaves)
+          → ((s′ : Machine M) → Fine s′ → Left (again s′))
+          → Left (after x again (λ e. result (fault e) n μ s))
       pick (ok a s′) g i = unfold after in i s′ g
-      pick (ended e) g i = unfold after in h
+      pick (ended e) g i = unfold after in (h, l)
 
-  run-keeps : (n : ℕ) (m : M) → Q m → Fine (run sum D o code n (fresh m) .leaves)
+  run-keeps : (n : ℕ) (m : M) → Q m → Left (run sum D o code n 0 (fresh m))
   unfolding run
-  run-keeps n m q = run-fine n (due sum D o code (fresh m)) (fresh m) refl (omega arith, omega arith, q)
+  run-keeps n m q =
+      run-fine n (due sum D o code (fresh m)) 0 (fresh m) refl (omega arith, omega arith, q) (omega arith)
 
   pub kept : Kept sum D o code Q
-  kept n m q = run-keeps n m q .2
+  kept n m q = run-keeps n m q .0 .2
 
 pub inside : {M Name : Type 0} (sum : SumRule) (D : ℕ) (o : Memory M Name) (code : List (Record Name))
     → Inside sum D o code
 inside sum D o code n m =
     let x = run-keeps sum D o code (λ _. Unit {0}) (record { saved = λ m x z q. tt; poked = λ m i z l q. tt }) n m tt in
-    (x .0, x .1)
+    (x .0 .0, x .0 .1, x .1)

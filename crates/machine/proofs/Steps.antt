@@ -1,7 +1,7 @@
 -- What each record comes to, and a run's three cases, in the form in which code has them: k values on the stack,
 -- tests on k, `k - 1` and `p + 1` for the sizes and positions. Over any memory and any sum rule.
 use mathlib.Core.Path.{_≡_, refl, _∙_, ap, ap₂}
-use Prim.Native.Nat.{ℕ, zero, suc, _+_, _-_, _≤_, _<_}
+use Prim.Native.Nat.{ℕ, zero, suc, _+_, _-_, _≤_, _<_, max}
 use native.Mathlib.Omega.{arith}
 use mathlib.Core.Bool.{Bool, true, false, not}
 use mathlib.Core.List.{List}
@@ -158,18 +158,20 @@ module _ {M Name : Type 0} (sum : ℤ → ℤ → Sum) (D : ℕ) (o : Memory M N
 -- ---- a run's three cases
 
 module _ {M Name : Type 0} (sum : SumRule) (D : ℕ) (o : Memory M Name) (code : List (Record Name)) where
-  pub run-done : (n : ℕ) (s : Machine M) → due sum D o code s ≡ none → run sum D o code n s ≡ result End.done n s
+  pub run-done : (n μ : ℕ) (s : Machine M) → due sum D o code s ≡ none
+      → run sum D o code n μ s ≡ result End.done n μ s
   unfolding run run-at
-  run-done zero s e = ap (λ r. run-at sum D o code zero r s) e
-  run-done (suc n) s e = ap (λ r. run-at sum D o code (suc n) r s) e
+  run-done zero μ s e = ap (λ r. run-at sum D o code zero r μ s) e
+  run-done (suc n) μ s e = ap (λ r. run-at sum D o code (suc n) r μ s) e
 
-  pub run-spent : (r : Record Name) (s : Machine M) → due sum D o code s ≡ some r
-      → run sum D o code 0 s ≡ result End.spent 0 s
+  pub run-spent : (r : Record Name) (μ : ℕ) (s : Machine M) → due sum D o code s ≡ some r
+      → run sum D o code 0 μ s ≡ result End.spent 0 μ s
   unfolding run run-at
-  run-spent r s e = ap (λ r. run-at sum D o code zero r s) e
+  run-spent r μ s e = ap (λ r. run-at sum D o code zero r μ s) e
 
-  pub run-step : (n : ℕ) (r : Record Name) (s : Machine M) → due sum D o code s ≡ some r
-      → run sum D o code (suc n) s
-      ≡ after (act (sum n) D o (length code) r s) (run sum D o code n) (λ e. result (fault e) n s)
+  pub run-step : (n : ℕ) (r : Record Name) (μ : ℕ) (s : Machine M) → due sum D o code s ≡ some r
+      → run sum D o code (suc n) μ s
+      ≡ after (act (sum n) D o (length code) r s)
+      (λ s′. run sum D o code n (max μ (s′ .size)) s′) (λ e. result (fault e) n μ s)
   unfolding run run-at
-  run-step n r s e = ap (λ r. run-at sum D o code (suc n) r s) e
+  run-step n r μ s e = ap (λ r. run-at sum D o code (suc n) r μ s) e

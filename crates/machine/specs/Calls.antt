@@ -26,9 +26,9 @@ assembly-tests code m =
 
 -- D is the stack's length
 abbrev pub assembly-run : AssemblyCode → Assembly → ℕ → Result (Machine Assembly)
-assembly-run P m budget = run sum32 (length (m .stack)) assembly P budget (fresh m)
+assembly-run P m budget = run sum32 (length (m .stack)) assembly P budget 0 (fresh m)
 
--- The end and the count; the stack and the store as they are left
+-- The end, the count and the mark; the stack and the store as they are left
 unfoldable pub run-assembly : List ℕ → Assembly → ℕ → Answer Ran × Assembly
 run-assembly code m budget =
     settle (assembly-tests code m)
@@ -49,9 +49,9 @@ machine-tests code memory D n =
     gives P)
 
 abbrev pub machine-run : MachineCode → List ℤ → ℕ → ℕ → Result (Machine (List ℤ))
-machine-run P memory D budget = run sum32 D (machine-cells D) P budget (fresh memory)
+machine-run P memory D budget = run sum32 D (machine-cells D) P budget 0 (fresh memory)
 
--- The end and the count; the memory as it is left
+-- The end, the count and the mark; the memory as it is left
 unfoldable pub run-machine : List ℕ → List ℤ → ℕ → ℕ → ℕ → Answer Ran × List ℤ
 run-machine code memory D n budget =
     settle (machine-tests code memory D n)

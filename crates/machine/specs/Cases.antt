@@ -6,7 +6,7 @@ use mathlib.Core.List.{List, [], _∷_, _++_, map}
 use lib.IntN.{ℤ, pos, negsuc}
 use lib.ListN.{replicate}
 use Rattle.base.specs.Answers.{Answer, gives, refused}
-use Rattle.base.specs.Ends.{Fault, short, full, out-of-range, astray, End, done, spent, fault, Result, Ran}
+use Rattle.base.specs.Ends.{Fault, short, full, out-of-range, astray, End, done, spent, fault, Result, Ran, ran}
 use Rattle.word.specs.Sums.{sum32}
 use Rattle.record.specs.Records.{Record, LOADI, ADD, JMP, JMPLESS, JMPGE}
 use Rattle.record.specs.Cases.{five}
@@ -16,48 +16,49 @@ use Rattle.machine.specs.Machine.{Machine, fresh, run}
 use Rattle.machine.specs.Memories.{Assembly, assembly, machine-cells}
 use Rattle.machine.specs.Calls.{run-assembly, run-machine}
 
--- A code, D and a budget; the end and the count
+-- A code, D and a budget; the end, the count and the mark
 pub record Row (Name : Type 0) : Type 0 where
   pub code : List (Record Name)
   pub depth : ℕ
   pub budget : ℕ
   pub end : End
   pub count : ℕ
+  pub mark : ℕ
 
-abbrev pub row : {Name : Type 0} → List (Record Name) → ℕ → ℕ → End → ℕ → Row Name
-row P D b e k = record { code = P; depth = D; budget = b; end = e; count = k }
+abbrev pub row : {Name : Type 0} → List (Record Name) → ℕ → ℕ → End → ℕ → ℕ → Row Name
+row P D b e k mark = record { code = P; depth = D; budget = b; end = e; count = k; mark = mark }
 
 -- "Position equal to the number of records is done, before the budget is looked at; then spent; then short; full; out of
 -- range; astray"; a comparing jump that isn't taken may have any operand
 unfoldable pub rows : (Name : Type 0) → List (Row Name)
 rows Name =
-    row [] 0 0 done 0
-    ∷ row (LOADI (pos 1) ∷ []) 1 0 spent 0
-    ∷ row (LOADI (pos 1) ∷ []) 1 1 done 1
-    ∷ row (ADD ∷ []) 2 9 (fault short) 1
-    ∷ row (LOADI (pos 1) ∷ ADD ∷ []) 2 9 (fault short) 2
-    ∷ row (LOADI (pos 1) ∷ JMPGE (pos 9) ∷ []) 2 9 (fault short) 2
-    ∷ row (LOADI (pos 1) ∷ LOADI (pos 2) ∷ []) 1 9 (fault full) 2
-    ∷ row (LOADI (pos 2147483647) ∷ LOADI (pos 1) ∷ ADD ∷ []) 2 9 (fault out-of-range) 3
-    ∷ row (JMP (pos 0) ∷ []) 0 9 done 1
-    ∷ row (JMP (pos 1) ∷ []) 0 9 (fault astray) 1
-    ∷ row (JMP (negsuc 1) ∷ []) 0 9 (fault astray) 1
-    ∷ row (LOADI (pos 1) ∷ LOADI (pos 2) ∷ JMPLESS (pos 9) ∷ []) 2 9 (fault astray) 3
-    ∷ row (LOADI (pos 2) ∷ LOADI (pos 2) ∷ JMPLESS (pos 9) ∷ []) 2 9 done 3
-    ∷ row (LOADI (pos 2) ∷ LOADI (pos 2) ∷ JMPGE (pos 9) ∷ []) 2 9 (fault astray) 3
-    ∷ row (LOADI (pos 1) ∷ LOADI (pos 2) ∷ JMPGE (pos 9) ∷ []) 2 9 done 3
+    row [] 0 0 done 0 0
+    ∷ row (LOADI (pos 1) ∷ []) 1 0 spent 0 0
+    ∷ row (LOADI (pos 1) ∷ []) 1 1 done 1 1
+    ∷ row (ADD ∷ []) 2 9 (fault short) 1 0
+    ∷ row (LOADI (pos 1) ∷ ADD ∷ []) 2 9 (fault short) 2 1
+    ∷ row (LOADI (pos 1) ∷ JMPGE (pos 9) ∷ []) 2 9 (fault short) 2 1
+    ∷ row (LOADI (pos 1) ∷ LOADI (pos 2) ∷ []) 1 9 (fault full) 2 1
+    ∷ row (LOADI (pos 2147483647) ∷ LOADI (pos 1) ∷ ADD ∷ []) 2 9 (fault out-of-range) 3 2
+    ∷ row (JMP (pos 0) ∷ []) 0 9 done 1 0
+    ∷ row (JMP (pos 1) ∷ []) 0 9 (fault astray) 1 0
+    ∷ row (JMP (negsuc 1) ∷ []) 0 9 (fault astray) 1 0
+    ∷ row (LOADI (pos 1) ∷ LOADI (pos 2) ∷ JMPLESS (pos 9) ∷ []) 2 9 (fault astray) 3 2
+    ∷ row (LOADI (pos 2) ∷ LOADI (pos 2) ∷ JMPLESS (pos 9) ∷ []) 2 9 done 3 2
+    ∷ row (LOADI (pos 2) ∷ LOADI (pos 2) ∷ JMPGE (pos 9) ∷ []) 2 9 (fault astray) 3 2
+    ∷ row (LOADI (pos 1) ∷ LOADI (pos 2) ∷ JMPGE (pos 9) ∷ []) 2 9 done 3 2
     ∷ []
 
 -- a row as a run has it
 abbrev pub ended-by : {M Name : Type 0} → Row Name → Result M → Row Name
-ended-by k r = row (k .code) (k .depth) (k .budget) (r .end) (k .budget - r .left)
+ended-by k r = row (k .code) (k .depth) (k .budget) (r .end) (k .budget - r .left) (r .mark)
 
 abbrev pub by-assembly : Row Variable → Row Variable
-by-assembly k = ended-by k (run sum32 (k .depth) assembly (k .code) (k .budget)
+by-assembly k = ended-by k (run sum32 (k .depth) assembly (k .code) (k .budget) 0
     (fresh (record { stack = replicate (k .depth) (pos 0); store = replicate 64 (pos 0) })))
 
 abbrev pub by-machine : Row Address → Row Address
-by-machine k = ended-by k (run sum32 (k .depth) (machine-cells (k .depth)) (k .code) (k .budget)
+by-machine k = ended-by k (run sum32 (k .depth) (machine-cells (k .depth)) (k .code) (k .budget) 0
     (fresh (replicate (k .depth + 1) (pos 0))))
 
 -- Every row holds on both memories.
@@ -72,7 +73,7 @@ lent stack store = record { stack = replicate stack (pos 8); store = replicate s
 
 -- code with nothing to run is done at 0
 abbrev pub done-at-0 : Answer Ran
-done-at-0 = gives (record { end = done; count = 0 })
+done-at-0 = gives (ran done 0 0)
 
 -- Number and place, and the stack and the store as they were. Where there are two faults, the first in order is given.
 pub record AssemblyDeclines : Type 0 where

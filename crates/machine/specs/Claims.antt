@@ -1,7 +1,8 @@
 -- What is claimed of runs, on any memory, of any code and under any rule for sums. A run's count is the number of its
--- steps; it stays within its code and its stack; it goes on where it was spent. The proof of the same spelling stands in
--- proofs/.
+-- steps, its mark the most values that its stack held; it stays within its code and its stack; it goes on where it was
+-- spent. The proof of the same spelling stands in proofs/.
 use mathlib.Core.Path.{_≡_}
+use mathlib.Core.Logic.{_⊎_}
 use Prim.Native.Nat.{ℕ, suc, _+_, _≤_, _<_}
 use mathlib.Core.List.{List}
 use mathlib.Core.Option.{none, some}
@@ -32,13 +33,24 @@ module _ {M Name : Type 0} (sum : SumRule) (D : ℕ) (o : Memory M Name) (code :
 
   -- A run's count is the number of steps that it made, the record that brought a fault counted too.
   abbrev pub Counted : Type 0
-  Counted = (n : ℕ) (s : Machine M) → let r = run sum D o code n s in Made n s (r .end) (r .left) (r .leaves)
+  Counted = (n mark : ℕ) (s : Machine M) → let r = run sum D o code n mark s in Made n s (r .end) (r .left) (r .leaves)
+
+  -- `Most n mark s high`: on the way from s with n ticks `high` is the most, the mark before counted too: no machine that
+  -- steps lead to has more values on its stack, and one of them has so many, or the mark was so high before
+  pub record Most (n mark : ℕ) (s : Machine M) (high : ℕ) : Type 0 where
+    pub kept : mark ≤ high
+    pub no-more : (n′ : ℕ) (s′ : Machine M) → Walk n n′ s s′ → s′ .size ≤ high
+    pub reached : (high ≡ mark) ⊎ ((n′ : ℕ) × (s′ : Machine M) × Walk n n′ s s′ × (s′ .size ≡ high))
+
+  -- "the most values that the stack held during the run" (document 02, W2) is what a run's mark is.
+  abbrev pub Highest : Type 0
+  Highest = (n mark : ℕ) (s : Machine M) → s .size ≤ mark → Most n mark s (run sum D o code n mark s .mark)
 
   -- The machine that a run leaves, at any budget and whatever the code, stands at most at its end position and has
-  -- at most D values on its stack.
+  -- at most D values on its stack; nor did it ever have more.
   abbrev pub Inside : Type 0
-  Inside = (n : ℕ) (m : M)
-      → let s = run sum D o code n (fresh m) .leaves in (s .position ≤ length code) × (s .size ≤ D)
+  Inside = (n : ℕ) (m : M) → let r = run sum D o code n 0 (fresh m) in
+      (r .leaves .position ≤ length code) × (r .leaves .size ≤ D) × (r .mark ≤ D)
 
 -- ---- Frames of laws, from which other claims are proved. No reader has to believe them
 
@@ -48,15 +60,15 @@ ahead b sum = λ n x y. sum (n + b) x y
 
 module _ {M Name : Type 0} (sum : SumRule) (D : ℕ) (o : Memory M Name) (code : List (Record Name)) where
   -- a result gone on with b ticks more: run on where the ticks were spent
-  unfoldable pub resume : ℕ → End → ℕ → Machine M → Result (Machine M)
-  resume b End.done n s = result End.done (n + b) s
-  resume b End.spent n s = run sum D o code b s
-  resume b (fault e) n s = result (fault e) (n + b) s
+  unfoldable pub resume : ℕ → End → ℕ → ℕ → Machine M → Result (Machine M)
+  resume b End.done n mark s = result End.done (n + b) mark s
+  resume b End.spent n mark s = run sum D o code b mark s
+  resume b (fault e) n mark s = result (fault e) (n + b) mark s
 
   -- A run with a + b ticks is a run with a ticks, gone on with b more.
   abbrev pub Split : Type 0
-  Split = (a b : ℕ) (s : Machine M) → let r = run (ahead b sum) D o code a s in
-      run sum D o code (a + b) s ≡ resume b (r .end) (r .left) (r .leaves)
+  Split = (a b mark : ℕ) (s : Machine M) → let r = run (ahead b sum) D o code a mark s in
+      run sum D o code (a + b) mark s ≡ resume b (r .end) (r .left) (r .mark) (r .leaves)
 
 -- a property of memories that saving and poking keep
 pub record Keeps {M Name : Type 0} (D : ℕ) (o : Memory M Name) (Q : M → Type 0) : Type 0 where
@@ -65,4 +77,4 @@ pub record Keeps {M Name : Type 0} (D : ℕ) (o : Memory M Name) (Q : M → Type
 
 -- A run keeps it too.
 abbrev pub Kept : {M Name : Type 0} → SumRule → (D : ℕ) → Memory M Name → List (Record Name) → (M → Type 0) → Type 0
-Kept {M = M} sum D o code Q = (n : ℕ) (m : M) → Q m → Q (run sum D o code n (fresh m) .leaves .memory)
+Kept {M = M} sum D o code Q = (n : ℕ) (m : M) → Q m → Q (run sum D o code n 0 (fresh m) .leaves .memory)

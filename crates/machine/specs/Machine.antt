@@ -1,5 +1,6 @@
--- The stack machine, once for both memories (document 01, "Executors"; document 001, iexec and m-iexec).
-use Prim.Native.Nat.{ℕ, zero, suc}
+-- The stack machine, once for both memories (document 01, "Executors"; document 001, iexec and m-iexec), and the mark of
+-- its runs (document 02, W2).
+use Prim.Native.Nat.{ℕ, zero, suc, max}
 use mathlib.Core.List.{List}
 use mathlib.Core.Option.{Option, none, some}
 use lib.IntN.{ℤ}
@@ -108,14 +109,21 @@ module _ {M Name : Type 0} (sum : SumRule) (D : ℕ) (o : Memory M Name) (code :
   abbrev pub due : Machine M → Option (Record Name)
   due s = getElem? code (s .position)
 
-  -- "Position equal to the number of records is done, before the budget is looked at; then spent; then short, full,
-  -- out of range, astray"
-  unfoldable pub run-at : ℕ → Option (Record Name) → Machine M → Result (Machine M)
-  run-at zero none s = result done zero s
-  run-at (suc n) none s = result done (suc n) s
-  run-at zero (some r) s = result spent zero s
-  run-at (suc n) (some r) s =
-      after (act (sum n) D o (length code) r s) (λ s′. run-at n (due s′) s′) (λ e. result (fault e) n s)
+  -- "the most values that the stack held": the mark before a record, and the values on the stack after it
+  abbrev pub raised : ℕ → Machine M → ℕ
+  raised mark s = max mark (s .size)
 
-  unfoldable pub run : ℕ → Machine M → Result (Machine M)
-  run n s = run-at n (due s) s
+  -- "Position equal to the number of records is done, before the budget is looked at; then spent; then short, full,
+  -- out of range, astray". A record that ends the run raises no mark
+  unfoldable pub run-at : ℕ → Option (Record Name) → ℕ → Machine M → Result (Machine M)
+  run-at zero none mark s = result done zero mark s
+  run-at (suc n) none mark s = result done (suc n) mark s
+  run-at zero (some r) mark s = result spent zero mark s
+  run-at (suc n) (some r) mark s =
+      after (act (sum n) D o (length code) r s)
+      (λ s′. run-at n (due s′) (raised mark s′) s′)
+      (λ e. result (fault e) n mark s)
+
+  -- A run with n ticks left, from a machine with the mark that it has so far: 0 for a fresh one
+  unfoldable pub run : ℕ → ℕ → Machine M → Result (Machine M)
+  run n mark s = run-at n (due s) mark s

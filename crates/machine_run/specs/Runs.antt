@@ -19,11 +19,13 @@ use Rattle.machine_step.specs.declared.Machine.{Machine}
 abbrev pub Runs : Machine → ℕ → ℕ → List ℕ → List ℤ → ℕ → Result (Rules.Machine (List ℤ)) → Type 0
 Runs s D last code m budget result = (n : ℕ) (P : MachineCode) → length m ≡ D + 1 + n
     → records-from (machine-kind n) code 0 last ≡ gives P
-    → result ≡ run sum32 D (machine-cells D) P (budget - s .count) (machine-of s m)
+    → result ≡ run sum32 D (machine-cells D) P (budget - s .count) (s .mark) (machine-of s m)
 
--- It needs a machine that may stand at its code's end, with its count within the budget
+-- It needs a machine that may stand at its code's end, with its values within its mark, that within D, and its count
+-- within the budget
 pub record Starts (s : Machine) (D last budget : ℕ) : Type 0 where
   pub few : last ≤ 4096
   pub placed : s .position ≤ last
-  pub held : s .size ≤ D
+  pub held : s .size ≤ s .mark
+  pub marked : s .mark ≤ D
   pub used : s .count ≤ budget

@@ -1,6 +1,6 @@
 -- A slot of the lent slice in the terms of the memory's form, in either layout; and where a record is done there.
 use mathlib.Core.Path.{_≡_, refl, ap, _∙_}
-use Prim.Native.Nat.{ℕ, _<_, _^_}
+use Prim.Native.Nat.{ℕ, _≤_, _<_, _^_}
 use mathlib.Core.List.{List}
 use lib.IntN.{ℤ, pos}
 use lib.ListN.{getD, set}
@@ -36,11 +36,13 @@ module _ (x : Limits) (store lent : List ℤ) where
       → memory-of (x .layout) store lent′ ≡ form (x .layout) (x .depth) .poke (memory-of (x .layout) store lent) i z
   poked i z e = ap (memory-of (x .layout) store) e ∙ pokes (x .layout) (x .depth) i store lent z
 
-abbrev pub place : Machine → (x : Limits) → List ℤ → List ℤ → Place (Lent (x .layout)) (Named (x .layout))
-place s x store lent = record {
+abbrev pub place : (s : Machine) → s .size ≤ s .mark → (x : Limits) → List ℤ → List ℤ
+    → Place (Lent (x .layout)) (Named (x .layout))
+place s held x store lent = record {
   depth = x .depth;
   form = form (x .layout) (x .depth);
   last = x .last;
   machine = s;
+  held = held;
   memory = memory-of (x .layout) store lent;
 }

@@ -1,5 +1,5 @@
 -- What the code's machines, steps and runs say. The memory that is lent beside them is a parameter.
-use Prim.Native.Nat.{ℕ, _+_, _-_}
+use Prim.Native.Nat.{ℕ, _+_, _-_, max}
 use mathlib.Core.Option.{Option, none, some}
 use Rattle.base.specs.Acts.{Outcome, ok, ended}
 use Rattle.base.specs.Ends as Ends
@@ -19,21 +19,21 @@ use Rattle.machine_step.specs.declared.Halted.{Halted}
 
 -- ---- Machines and steps by value
 
--- "A fresh machine has position 0, stack empty, count 0"
+-- "A fresh machine has position 0, stack empty, count 0", and its stack has held nothing
 abbrev pub fresh-machine : Machine
-fresh-machine = record { position = 0; count = 0; size = 0 }
+fresh-machine = record { position = 0; count = 0; size = 0; mark = 0 }
 
 -- The record counted and the run ended: "count the record and change nothing else"
 abbrev pub stopped : Machine → End → Step
-stopped s e = Ended e (record { position = s .position; count = s .count + 1; size = s .size })
+stopped s e = Ended e (record { position = s .position; count = s .count + 1; size = s .size; mark = s .mark })
 
 -- The record counted and the machine moved
-abbrev pub moved : Machine → ℕ → ℕ → Step
-moved s position size = Next (record { position = position; count = s .count + 1; size = size })
+abbrev pub moved : Machine → ℕ → ℕ → ℕ → Step
+moved s position size mark = Next (record { position = position; count = s .count + 1; size = size; mark = mark })
 
 -- The record counted and a jump taken, with `size` values left
 abbrev pub landed : Machine → ℕ → Target → Step
-landed s size (To position) = moved s position size
+landed s size (To position) = moved s position size (s .mark)
 landed s size Astray = stopped s End.Astray
 
 -- ---- What they say
@@ -42,20 +42,23 @@ landed s size Astray = stopped s End.Astray
 abbrev pub machine-of : {M : Type 0} → Machine → M → Rules.Machine M
 machine-of s m = at (s .position) (s .size) m
 
--- A step: the count, the end that it brings, if any, and the machine that it leaves
+-- A step: the count, the mark, the end that it brings, if any, and the machine that it leaves
 pub record Stepped (M : Type 0) : Type 0 where
   pub count : ℕ
+  pub mark : ℕ
   pub end : Option Ends.End
   pub leaves : Rules.Machine M
 
 abbrev pub step-of : {M : Type 0} → Step → M → Stepped M
-step-of (Next s) m = record { count = s .count; end = none; leaves = machine-of s m }
-step-of (Ended e s) m = record { count = s .count; end = some (end-of e); leaves = machine-of s m }
+step-of (Next s) m = record { count = s .count; mark = s .mark; end = none; leaves = machine-of s m }
+step-of (Ended e s) m = record { count = s .count; mark = s .mark; end = some (end-of e); leaves = machine-of s m }
 
--- What a record's outcome makes of a machine: the record is counted; after a fault all else is as it was
+-- What a record's outcome makes of a machine: the record is counted, and the mark is raised to the values on the stack;
+-- after a fault all but the count is as it was
 unfoldable pub counted : {M : Type 0} → Machine → M → Outcome (Rules.Machine M) Fault (Unit {0}) → Stepped M
-counted s m (ok a s′) = record { count = s .count + 1; end = none; leaves = s′ }
-counted s m (ended e) = record { count = s .count + 1; end = some (fault e); leaves = machine-of s m }
+counted s m (ok a s′) = record { count = s .count + 1; mark = max (s .mark) (s′ .size); end = none; leaves = s′ }
+counted s m (ended e) =
+    record { count = s .count + 1; mark = s .mark; end = some (fault e); leaves = machine-of s m }
 
 -- What a record does to a machine, counted
 abbrev pub does : {M Name : Type 0} → ℕ → Memory M Name → ℕ → Machine → M → Record Name → Stepped M
@@ -63,4 +66,5 @@ does D o last s m r = counted s m (act (sum32 0) D o last r (machine-of s m))
 
 -- A run: the ticks left are the budget less the count
 abbrev pub halted-result : {M : Type 0} → ℕ → Halted → M → Result (Rules.Machine M)
-halted-result budget r m = result (end-of (r .end)) (budget - r .machine .count) (machine-of (r .machine) m)
+halted-result budget r m =
+    result (end-of (r .end)) (budget - r .machine .count) (r .machine .mark) (machine-of (r .machine) m)

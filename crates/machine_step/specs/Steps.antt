@@ -64,12 +64,14 @@ OnStack s x lent lent′ step r = (store : List ℤ)
     → step-of step (memory-of (x .layout) store lent′)
     ≡ does (x .depth) (form (x .layout) (x .depth)) (x .last) s (memory-of (x .layout) store lent) r
 
--- It needs a machine within its code and its stack, room for the count, a slice with D slots
+-- It needs a machine within its code, with its values within its mark and that within D, room for the count, a slice
+-- with D slots
 pub record Ready (s : Machine) (x : Limits) (lent : List ℤ) : Type 0 where
   pub long : x .depth ≤ length lent
   pub few : x .last ≤ 4096
   pub placed : s .position < x .last
-  pub held : s .size ≤ x .depth
+  pub held : s .size ≤ s .mark
+  pub marked : s .mark ≤ x .depth
   pub room : s .count + 1 < 2 ^ 32
 
 -- ---- Steps of machine code

@@ -23,11 +23,13 @@ ghost use Rattle.machine_step.specs.Steps.{comparing, upward, downward, 
 ghost use Rattle.machine_step.specs.Steps.{on-machine, MachineSteps, MachinePassed};
 ghost use Rattle.machine_step.specs.Steps.{assembly-of, on-assembly, AssemblySteps, AssemblyPassed};
 
-// The position of the record due, the records counted, the number of values on the stack.
+// The position of the record due, the records counted, the number of values on the stack, and the mark: the most that
+// there were.
 pub struct Machine {
     pub position: usize,
     pub count: u32,
     pub size: usize,
+    pub mark: usize,
 }
 
 // What a step comes to: the next machine, or an end and the machine that it leaves.
@@ -52,7 +54,7 @@ impl Machine {
     // The most cells of machine memory: the stack's, address 0, the variables'.
     pub const MEMORY_CELLS: usize = Self::STACK_CELLS + 1 + Self::VARIABLES;
 
-    // A fresh machine: position 0, stack empty, count 0.
+    // A fresh machine: position 0, stack empty, count 0, mark 0.
     pub fn fresh() -> Self
         ensures { λ r. ⌜ r ≡ fresh-machine ⌝ }
     {
@@ -60,6 +62,7 @@ impl Machine {
             position: 0,
             count: 0,
             size: 0,
+            mark: 0,
         }
     }
 
@@ -74,19 +77,21 @@ impl Machine {
                 position: self.position,
                 count: self.count + 1,
                 size: self.size,
+                mark: self.mark,
             },
         )
     }
 
-    // The record is counted, and the machine goes on at this position with this many values.
-    fn moves(self, position: usize, size: usize) -> Step
+    // The record is counted, and the machine goes on at this position with this many values and this mark.
+    fn moves(self, position: usize, size: usize, mark: usize) -> Step
         requires { ⌜ self .count + 1 < 2 ^ 32 ⌝ }
-        ensures { λ r. ⌜ r ≡ moved self position size ⌝ }
+        ensures { λ r. ⌜ r ≡ moved self position size mark ⌝ }
     {
         Step::Next(Machine {
             position,
             count: self.count + 1,
             size,
+            mark,
         })
     }
 
@@ -96,22 +101,26 @@ impl Machine {
         ensures { λ r. ⌜ r ≡ landed self size (target (self .position) operand last) ⌝ }
     {
         match word::jump(self.position, operand, last) {
-            Target::To(position) => self.moves(position, size),
+            Target::To(position) => self.moves(position, size, self.mark),
             Target::Astray => self.stops(End::Astray),
         }
     }
 
-    // LOADI: a number pushed. Full where D values stand on the stack.
+    // LOADI: a number pushed. Below the mark there is room; at the mark the stack is full, or the mark rises.
     fn loadi(self, lent: &mut [i32], limits: Limits, z: i32) -> Step
         requires { ⌜ Ready self limits (now lent) ⌝ }
         ensures { λ r. ⌜ OnStack self limits (now (lent .entry)) (now (lent .exit)) r (LOADI z) ⌝ }
     {
         let size = self.size;
+        if size < self.mark {
+            limits.poke(lent, size, z);
+            return self.moves(self.position + 1, size + 1, self.mark);
+        }
         if limits.depth <= size {
             return self.stops(End::Full);
         }
         limits.poke(lent, size, z);
-        self.moves(self.position + 1, size + 1)
+        self.moves(self.position + 1, size + 1, size + 1)
     }
 
     // ADD: the sum of the two top values in their place. Short, or out of range.
@@ -128,7 +137,7 @@ impl Machine {
         match word::add(second, top) {
             Sum::Fits(z) => {
                 limits.poke(lent, size - 2, z);
-                self.moves(self.position + 1, size - 1)
+                self.moves(self.position + 1, size - 1, self.mark)
             }
             Sum::Out => self.stops(End::OutOfRange),
         }
@@ -149,7 +158,7 @@ impl Machine {
         if word::less(second, top) == flag {
             return self.jumps(operand, size - 2, limits.last);
         }
-        self.moves(self.position + 1, size - 2)
+        self.moves(self.position + 1, size - 2, self.mark)
     }
 
     // STORE of machine code: the top value taken off and kept at an address. Short.
@@ -165,7 +174,7 @@ impl Machine {
         }
         let z = limits.peek(memory, size - 1);
         save_at(memory, limits.depth, address, z);
-        self.moves(self.position + 1, size - 1)
+        self.moves(self.position + 1, size - 1, self.mark)
     }
 
     // STORE of assembly: the top value taken off and kept in a variable. Short.
@@ -182,7 +191,7 @@ impl Machine {
         }
         let z = limits.peek(stack, size - 1);
         save_in(store, variable, z);
-        self.moves(self.position + 1, size - 1)
+        self.moves(self.position + 1, size - 1, self.mark)
     }
 
     // One step of machine code: the record at the machine's position.
@@ -253,14 +262,15 @@ impl Machine {
 }
 
 impl Halted {
-    // What a call tells of the run: its end and its count.
+    // What a call tells of the run: its end, its count and its mark.
     pub fn answer(self) -> Run
-        ensures { λ r. ⌜ r ≡ Run.Ended (self .end) (self .machine .count) ⌝ }
+        ensures { λ r. ⌜ r ≡ Run.Ended (self .end) (self .machine .count) (self .machine .mark) ⌝ }
     {
         let end = self.end;
         Run::Ended {
             end,
             count: self.machine.count,
+            mark: self.machine.mark,
         }
     }
 }

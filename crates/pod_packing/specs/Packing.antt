@@ -20,7 +20,7 @@ abbrev pub packed-count : Answer ℕ → ℕ
 packed-count (refused number place) = packed-refusal number place
 packed-count (gives n) = 256 * (n % 65536)
 
--- A run: bits 8 to 15, the end; bits 16 to 47, the count
+-- A run: bits 8 to 15, the end; bits 16 to 47, the count; bits 48 to 55, the mark
 abbrev pub end-number : End → ℕ
 end-number done = 0
 end-number spent = 1
@@ -31,4 +31,4 @@ end-number (fault astray) = 5
 
 abbrev pub packed-run : Answer Ran → ℕ
 packed-run (refused number place) = packed-refusal number place
-packed-run (gives r) = 256 * end-number (r .end) + 65536 * r .count
+packed-run (gives r) = 256 * end-number (r .end) + 65536 * r .count + 281474976710656 * (r .mark % 256)

@@ -78,6 +78,8 @@ pub fn pack_run(run: Run) -> u64
 {
     match run {
         Run::Refused(refusal) => pack_refusal(refusal),
-        Run::Ended { end, count } => 256 * end_number(end) + 65536 * (count as u64),
+        Run::Ended { end, count, mark } => {
+            256 * end_number(end) + 65536 * (count as u64) + 281474976710656 * one_byte(mark)
+        }
     }
 }

@@ -92,8 +92,8 @@ end-text (fault full) = 102 ∷ 117 ∷ 108 ∷ 108 ∷ []  -- full
 end-text (fault out-of-range) = 114 ∷ 97 ∷ 110 ∷ 103 ∷ 101 ∷ []  -- range
 end-text (fault astray) = 97 ∷ 115 ∷ 116 ∷ 114 ∷ 97 ∷ 121 ∷ []  -- astray
 
-unfoldable pub run-line : Ran → List ℕ
-run-line r = run-word ++ (end-text (r .end) ++ (32 ∷ (decimal (r .count) ++ newline)))
+unfoldable pub run-line : End → ℕ → List ℕ
+run-line e count = run-word ++ (end-text e ++ (32 ∷ (decimal count ++ newline)))
 
 -- ---- "Then each named variable and value, ascending"
 
@@ -111,7 +111,7 @@ value-lines t s v (suc k) = value-line v (getD t v 0) (getD s v (pos 0)) ++ valu
 
 -- a run's lines, from zeros with budget 1000000
 unfoldable pub run-lines : List ℕ → Answer Ran × Store → List ℕ
-run-lines t (gives r, s) = run-line r ++ value-lines t s 0 64
+run-lines t (gives r, s) = run-line (r .end) (r .count) ++ value-lines t s 0 64
 run-lines t (refused number place, s) = []
 
 -- "refused "

@@ -4,7 +4,7 @@ use Prim.Native.Nat.{ℕ, zero, suc, _+_, _*_, _<_, _≤_}
 use native.Mathlib.Omega.{arith}
 use lib.IntN.{ℤ}
 use lib.ListN.{length, length-append}
-use Rattle.base.specs.Ends.{End, done, spent, fault, short, full, out-of-range, astray, Ran}
+use Rattle.base.specs.Ends.{End, done, spent, fault, short, full, out-of-range, astray}
 use Rattle.text.specs.declared.Sizes.{Sizes}
 use Rattle.record.specs.Records.{Record, LOADI, LOAD, ADD, STORE, JMP, JMPLESS, JMPGE, AssemblyCode, MachineCode}
 use Rattle.record.specs.Bytes.{Kind, operand, assembly-kind, machine-kind}
@@ -60,9 +60,9 @@ end-length (fault full) = omega arith
 end-length (fault out-of-range) = omega arith
 end-length (fault astray) = omega arith
 
-pub run-line-length : (r : Ran) → length (run-line r) ≤ 22
+pub run-line-length : (e : End) (count : ℕ) → length (run-line e count) ≤ 22
 unfolding run-line
-run-line-length r = simp length-append (omega (arith, end-length (r .end), decimal-length (r .count)))
+run-line-length e count = simp length-append (omega (arith, end-length e, decimal-length count))
 
 pub value-line-length : (v a : ℕ) (z : ℤ) → v < 100 → length (value-line v a z) ≤ 15
 unfolding value-line
@@ -82,14 +82,15 @@ unfolding refusal-line
 refusal-line-length number place = simp length-append (omega (arith, decimal-length number, decimal-length place))
 
 -- 200,000 bytes are enough.
-pub enough : (z : Sizes) (P : AssemblyCode) (Q : MachineCode) (r : Ran) (t : List ℕ) (s : List ℤ) → length P ≤ 4096
-    → length (first-line z ++ (record-lines 0 P Q ++ (run-line r ++ value-lines t s 0 64))) ≤ 200000
-enough z P Q r t s h =
+pub enough : (z : Sizes) (P : AssemblyCode) (Q : MachineCode) (e : End) (count : ℕ) (t : List ℕ) (s : List ℤ)
+    → length P ≤ 4096
+    → length (first-line z ++ (record-lines 0 P Q ++ (run-line e count ++ value-lines t s 0 64))) ≤ 200000
+enough z P Q e count t s h =
     simp length-append
     (omega (
       arith,
       first-line-length z,
       record-lines-length 0 P Q (omega arith),
-      run-line-length r,
+      run-line-length e count,
       value-lines-length t s 0 64 (omega arith),
     ))

@@ -10,7 +10,6 @@ ghost use lib.ListN.{length};
 ghost use Rattle.base.specs.Code.{end-of};
 ghost use Rattle.print_ascii.specs.Puts.{Puts};
 ghost use Rattle.print.specs.Printing.{first-line, end-text, run-line, value-line, value-lines, refusal-line};
-ghost use Rattle.print_lines.specs.Code.{ran};
 
 // Enough for what is printed for any text.
 pub const LONGEST_OUTPUT: usize = 200000;
@@ -48,7 +47,7 @@ fn put_end(out: &mut [u8], at: usize, end: End) -> usize
 
 pub fn put_run_line(out: &mut [u8], at: usize, end: End, count: u32) -> usize
     requires { ⌜ at + 22 ≤ length (now out) ⌝ }
-    ensures { λ r. ⌜ Puts (run-line (ran end count)) at (now (out .entry)) (now (out .exit)) r ⌝ }
+    ensures { λ r. ⌜ Puts (run-line (end-of end) count) at (now (out .entry)) (now (out .exit)) r ⌝ }
 {
     let next = print_ascii::put_word(out, at, b"run ");
     let next = put_end(out, next, end);

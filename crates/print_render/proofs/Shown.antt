@@ -61,7 +61,7 @@ was-read text z e =
 pub record Came (text a m t : List ℕ) (s : Store) (z : Sizes) (x : Answer Ran) : Type 0 where
   pub some : SomeCodes a m (z .records)
   pub never : (number place : ℕ) → x ≡ refused number place → ⊥
-  pub shows : (ran : Ran) → x ≡ gives ran → shown text ≡ lines z (some .P) (some .Q) ran t s
+  pub shows : (ran : Ran) → x ≡ gives ran → shown text ≡ lines z (some .P) (some .Q) (ran .end) (ran .count) t s
 
 module _ (text : List ℕ) (bytes : Bytes text) (z : Sizes) (r : Read text z) where
   abbrev c : Command
@@ -144,12 +144,12 @@ module _ (text : List ℕ) (bytes : Bytes text) (z : Sizes) (r : Read text z) wh
 
     -- and these are the lines.
     lines-shown : (ran : Ran) → x ≡ gives ran
-        → shown text ≡ lines z (ccomp c) (to-m-prog (ccomp c)) ran t′ s′
+        → shown text ≡ lines z (ccomp c) (to-m-prog (ccomp c)) (ran .end) (ran .count) t′ s′
     unfolding answer-lines run-lines
     lines-shown ran f =
         ap (answer-lines text) (r .read)
         ∙ ap (λ (p : Answer Ran × Store). by p) (same-run ∙ (λ i. (f i, s′)))
-        ∙ (λ i. lines (sym (r .tells) i) (ccomp c) (to-m-prog (ccomp c)) ran (sym table-left i) s′)
+        ∙ (λ i. lines (sym (r .tells) i) (ccomp c) (to-m-prog (ccomp c)) (ran .end) (ran .count) (sym table-left i) s′)
       where
         by : Answer Ran × Store → List ℕ
         by p = first-line (sizes c) ++ (record-lines 0 (ccomp c) (to-m-prog (ccomp c)) ++ run-lines (table (ccomp c)) p)

@@ -4,11 +4,11 @@ ghost use Prim.Native.Nat.{ℕ, _*_, _≤_};
 ghost use mathlib.Core.Path.{_≡_};
 ghost use lib.ListN.{length};
 ghost use Rattle.base.specs.Answers.{gives};
+ghost use Rattle.base.specs.Code.{end-of};
 ghost use Rattle.text.specs.Calls.{read-call};
 ghost use Rattle.record.specs.Records.{AssemblyCode, MachineCode};
 ghost use Rattle.print_ascii.specs.Puts.{Puts};
 ghost use Rattle.print.specs.Printing.{shown};
-ghost use Rattle.print_lines.specs.Code.{ran};
 ghost use Rattle.print_records.specs.Lines.{Codes};
 ghost use Rattle.print_render.specs.Lines.{SomeCodes, lines};
 use base::End;
@@ -57,7 +57,7 @@ fn put_lines(
     requires { ⌜ SomeCodes (now assembly) (now machine) (sizes .records) ⌝ }
     ensures { λ r. ⌜ ((n : ℕ) (P : AssemblyCode) (Q : MachineCode)
         → Codes (now (assembly .entry)) (now (machine .entry)) (sizes .records) n P Q
-        → Puts (lines sizes P Q (ran end count) (now (table .entry)) (now (store .entry)))
+        → Puts (lines sizes P Q (end-of end) count (now (table .entry)) (now (store .entry)))
         0 (now (out .entry)) (now (out .exit)) r) ⌝ }
 {
     let next = print_lines::put_first_line(out, 0, sizes);
@@ -88,7 +88,7 @@ fn render_accepted(text: &[u8], out: &mut [u8], sizes: Sizes) -> usize
         BUDGET,
     ) {
         Run::Refused(refusal) => print_lines::put_refusal(out, 0, refusal),
-        Run::Ended { end, count } => {
+        Run::Ended { end, count, .. } => {
             put_lines(out, &assembly, &machine, &table, &store, sizes, end, count)
         }
     }

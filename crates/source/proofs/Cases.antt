@@ -1,13 +1,13 @@
--- Profiles A to K under the source rules, and where the call declines, by computation (Cases: Tallies, Declines); J at
--- every budget, pass by pass (Forever).
+-- Profiles A to K under the source rules, a mark tick by tick, and where the call declines, by computation (Cases:
+-- Tallies, Marks, Declines); J at every budget, pass by pass (Forever).
 use mathlib.Core.Path.{_≡_, refl, _∙_, ap}
 use Prim.Native.Nat.{ℕ, zero, suc, _-_, _<_}
 use native.Mathlib.Omega.{arith}
 use mathlib.Core.Bool.{true, false}
 use Rattle.base.specs.Acts.{then′, give}
 use Rattle.base.specs.Answers.{gives, and-then, settle}
-use Rattle.base.specs.Ends.{End, Result, result, report}
-use Rattle.word.specs.Numbers.{number-of, number-at}
+use Rattle.base.specs.Ends.{End, Result, result, ran, report}
+use Rattle.word.specs.Numbers.{number-of, number-at, byte-number}
 use Rattle.word.specs.Sums.{limited, sum32}
 use Rattle.text.specs.Reading.{expression-byte, condition-byte, command-byte, decline, there, due, pass, operand}
 use Rattle.text.specs.Reading.{number-due, number, expression-of, expression, condition-of, condition, command-of}
@@ -15,11 +15,11 @@ use Rattle.text.specs.Reading.{command, all-read, read-text}
 use Rattle.text.specs.Syntax.{Bc, SKIP, WHILE_DO_}
 use Rattle.text.specs.Cases.{A·text, B·text, C·text, D·text, E·text, F·text, G·text, H·text, I·text, J·text, K·text}
 use Rattle.text.specs.Cases.{texts}
-use Rattle.source.specs.Rules.{Store, state, run-rules}
-use Rattle.source.specs.Rules.{charge, tick, cell, assign, total, add, value, truth, loop, exec, end-of}
-use Rattle.source.specs.Rules.{result-of}
+use Rattle.source.specs.Rules.{Store, start, run-rules}
+use Rattle.source.specs.Rules.{charge, tick, raise, lower, cell, assign, total, add, value, truth, loop, exec}
+use Rattle.source.specs.Rules.{end-of, result-of}
 use Rattle.source.specs.Calls.{source-tests, run-source}
-use Rattle.source.specs.Cases.{zeros, Tallies, Forever, Declines}
+use Rattle.source.specs.Cases.{zeros, Tallies, Marks, Forever, Declines}
 use Rattle.source.proofs.Calls.{source-runs}
 
 pub tallies : Tallies
@@ -27,20 +27,27 @@ unfolding texts A·text B·text C·text D·text E·text F·text G·text H·text 
     then′ give and-then settle number-of number-at limited sum32
     expression-byte condition-byte command-byte decline there due pass operand number-due number
     expression-of expression condition-of condition command-of command all-read read-text
-    charge tick cell assign total add value truth loop exec end-of result-of source-tests run-source
+    charge tick raise lower cell assign total add value truth loop exec end-of result-of source-tests run-source
 tallies = refl
+
+pub marks : Marks
+unfolding zeros then′ give and-then settle byte-number limited sum32
+    expression-byte condition-byte command-byte decline there due pass operand number-due number
+    expression-of expression condition-of condition command-of command all-read read-text
+    charge tick raise lower cell assign total add value truth loop exec end-of result-of source-tests run-source
+marks = refl
 
 -- ---- J
 
 -- J's command: the passes allowed are always enough, and each takes a tick and changes nothing
 forever-loop : (g n : ℕ) (s : Store) → n < g
-    → result-of (loop sum32 g (truth sum32 (Bc true) false) (exec sum32 SKIP) (state n s)) ≡ result End.spent 0 s
+    → result-of (loop sum32 g (truth sum32 (Bc true) false) (exec sum32 SKIP) (start n s)) ≡ result End.spent 0 0 s
 unfolding loop truth exec give then′ tick charge result-of end-of
 forever-loop zero n s l = absurd (omega arith)
 forever-loop (suc g) zero s l = refl
 forever-loop (suc g) (suc n) s l = forever-loop g n s (omega arith)
 
-forever-rules : (n : ℕ) (s : Store) → run-rules sum32 (WHILE (Bc true) DO SKIP) n s ≡ result End.spent 0 s
+forever-rules : (n : ℕ) (s : Store) → run-rules sum32 (WHILE (Bc true) DO SKIP) n s ≡ result End.spent 0 0 s
 unfolding exec
 forever-rules n s = forever-loop (suc n) n s (omega arith)
 
@@ -54,7 +61,7 @@ pub forever : Forever
 forever budget s long =
     source-runs J·text (WHILE (Bc true) DO SKIP) s budget J-read long
     ∙ ap (λ (r : Result Store). (gives (report budget r), r .leaves)) (forever-rules budget s)
-    ∙ ap (λ k. (gives (record { end = End.spent; count = k }), s)) (let z : budget - 0 ≡ budget = omega arith in z)
+    ∙ ap (λ k. (gives (ran End.spent k 0), s)) (let z : budget - 0 ≡ budget = omega arith in z)
 
 -- ---- Where the call declines
 

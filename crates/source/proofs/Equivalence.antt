@@ -1,12 +1,13 @@
 -- The source rules with ticks and the published big-step rules lead to the same stores (Claims: PublishedBy).
+-- By induction on the part, and on the derivation; of a state the laws name only the ticks left and the store.
 use mathlib.Core.Path.{_≡_, refl, sym, _∙_, ap, subst}
 use mathlib.Core.Logic.{_⊎_, inl, inr}
-use Prim.Native.Nat.{ℕ, zero, suc, _+_, _≤_}
+use Prim.Native.Nat.{ℕ, zero, suc, _+_}
 use native.Mathlib.Nat.{zero-add, add-assoc}
 use native.Mathlib.Omega.{arith}
 use mathlib.Core.Bool.{Bool, true, false, not, _&&_, Bool·beq}
 use lib.IntN.{ℤ, pos, _+ℤ_}
-use lib.ListN.{getD}
+use lib.ListN.{getD, set}
 use lib.Signed.{ltZ}
 use Rattle.base.specs.Acts.{ok, ended, then′, _>>=_, _>>_, give, if_then_else_}
 use Rattle.word.specs.Sums.{SumRule}
@@ -15,160 +16,186 @@ use Rattle.word.specs.declared.Sum.{Sum}
 use Rattle.word.specs.declared.Sum.the-variants.{Fits, Out}
 use Rattle.text.specs.Syntax.{Expression, Constant, Variable, Plus, Condition, Bc, Not, And, Less, Command, SKIP}
 use Rattle.text.specs.Syntax.{_:=_, _⨾_, IF_THEN_ELSE_, WHILE_DO_}
-use Rattle.source.proofs.Passes.{Ends, ends-then, ends-tick, ends-step, ends-const, ends-if, pass}
-use Rattle.source.proofs.Passes.{while-unfold}
+use Rattle.source.proofs.Passes.{Ends, ends-then, ends-tick, ends-step, ends-if, pass, again}
 use Rattle.source.specs.BigStep.{aval, bval, BigStep, skip, assigns, seq, if-true, if-false, while-false}
 use Rattle.source.specs.BigStep.{while-true}
 use Rattle.source.specs.Claims.{PublishedBy}
-use Rattle.source.specs.Rules.{Early, State, Store, state, Rule, Outcomes, charge, tick, cell, assign, total}
-use Rattle.source.specs.Rules.{add, value, truth, loop, exec}
+use Rattle.source.specs.Rules.{Early, State, Ending, Store, state, start, Rule, Outcomes, charge, tick}
+use Rattle.source.specs.Rules.{raise, lower, cell, assign, total, add, value, truth, loop, exec}
 
 -- ---- From ticks to big-step
 
 module _ (sum : SumRule) (exact : Exact sum) where
-  ends-sum : (x y : ℤ) (n : ℕ) (s : Store) (Q : ℤ → State → Type 0) → Q (x +ℤ y) (state n s)
-      → Ends (add sum x y (state n s)) Q
+  ends-sum : (x y : ℤ) (s : State) (Q : ℤ → State → Type 0) → Q (x +ℤ y) s → Ends (add sum x y s) Q
   unfolding add total
-  ends-sum x y n s Q h = go (sum n x y) refl
+  ends-sum x y s Q h = go (sum (s .left) x y) refl
     where
-      go : (r : Sum) → sum n x y ≡ r → Ends (total r (state n s)) Q
-      go (Fits z) e = subst (λ w. Q w (state n s)) (sym (exact n x y z e)) h
+      go : (r : Sum) → sum (s .left) x y ≡ r → Ends (total r s) Q
+      go (Fits z) e = subst (λ w. Q w s) (sym (exact (s .left) x y z e)) h
       go Out e = tt
 
-  value-ends : (a : Expression) (n : ℕ) (s : Store) (Q : ℤ → State → Type 0)
-      → ((n′ : ℕ) → n′ ≤ n → Q (aval a s) (state n′ s)) → Ends (value sum a (state n s)) Q
-  unfolding value aval give cell
-  value-ends (Constant w z) n s Q h = ends-step n s (give z) Q (λ n′ l. h n′ (omega arith))
-  value-ends (Variable v) n s Q h = ends-step n s (cell v) Q (λ n′ l. h n′ (omega arith))
-  value-ends (Plus a b) n s Q h =
-      ends-then (value sum a (state n s)) _ Q (value-ends a n s _ (λ n₁ l₁.
-      ends-then (value sum b (state n₁ s)) _ Q (value-ends b n₁ s _ (λ n₂ l₂.
-      ends-step n₂ s _ Q (λ n₃ l₃. ends-sum (aval a s) (aval b s) n₃ s Q (h n₃ (omega arith)))))))
+  ends-cell : (v : ℕ) (t : Store) (s : State) (Q : ℤ → State → Type 0) → s .store ≡ t → Q (getD t v (pos 0)) s
+      → Ends (cell v s) Q
+  unfolding cell
+  ends-cell v t s Q e h = subst (λ t. Q (getD t v (pos 0)) s) (sym e) h
 
-  ends-and : (v w : Bool) (x : Rule Bool) (n : ℕ) (s : Store) (Q : Bool → State → Type 0)
-      → (((n′ : ℕ) → n′ ≤ n → Q w (state n′ s)) → Ends (x (state n s)) Q)
-      → ((n′ : ℕ) → n′ ≤ n → Q (v && w) (state n′ s)) → Ends ((if v then x else give false) (state n s)) Q
+  -- an expression from a state with the store t: its value, and a state with that store
+  value-ends : (a : Expression) (t : Store) (s : State) (Q : ℤ → State → Type 0) → s .store ≡ t
+      → ((u : State) → u .store ≡ t → Q (aval a t) u) → Ends (value sum a s) Q
+  unfolding value aval give raise lower then′
+  value-ends (Constant w z) t s Q e h = ends-step s _ Q (λ u l k. h _ (k ∙ e))
+  value-ends (Variable v) t s Q e h = ends-step s _ Q (λ u l k. ends-cell v t _ Q (k ∙ e) (h _ (k ∙ e)))
+  value-ends (Plus a b) t s Q e h =
+      ends-then (value sum a s) _ Q (value-ends a t s _ e (λ s₁ e₁.
+      ends-then (value sum b s₁) _ Q (value-ends b t s₁ _ e₁ (λ s₂ e₂.
+      ends-step s₂ _ Q (λ s₃ l₃ e₃. ends-sum (aval a t) (aval b t) _ Q (h _ (e₃ ∙ e₂)))))))
+
+  ends-const : (b v : Bool) (t : Store) (s : State) (Q : Bool → State → Type 0) → s .store ≡ t
+      → ((u : State) → u .store ≡ t → Q v u) → Ends ((if b then (tick >> give v) else give v) s) Q
   unfolding give
-  ends-and true w x n s Q i h = i h
-  ends-and false w x n s Q i h = h n (omega arith)
+  ends-const true v t s Q e h = ends-step s (give v) Q (λ u l k. h u (k ∙ e))
+  ends-const false v t s Q e h = h s e
 
-  truth-ends : (b : Condition) (f : Bool) (n : ℕ) (s : Store) (Q : Bool → State → Type 0)
-      → ((n′ : ℕ) → n′ ≤ n → Q (bval b s) (state n′ s)) → Ends (truth sum b f (state n s)) Q
-  unfolding truth bval give
-  truth-ends (Bc v) f n s Q h = ends-const (Bool·beq v f) v n s Q h
-  truth-ends (Not b) f n s Q h = ends-then (truth sum b (not f) (state n s)) _ Q (truth-ends b (not f) n s _ h)
-  truth-ends (And b c) f n s Q h =
-      ends-then (truth sum b false (state n s)) _ Q (truth-ends b false n s _ (λ n₁ l₁.
-      ends-and (bval b s) (bval c s) (truth sum c f) n₁ s Q (truth-ends c f n₁ s Q) (λ n′ l. h n′ (omega arith))))
-  truth-ends (Less a b) f n s Q h =
-      ends-then (value sum a (state n s)) _ Q (value-ends a n s _ (λ n₁ l₁.
-      ends-then (value sum b (state n₁ s)) _ Q (value-ends b n₁ s _ (λ n₂ l₂.
-      ends-step n₂ s (give (ltZ (aval a s) (aval b s))) Q (λ n₃ l₃. h n₃ (omega arith))))))
+  ends-and : (v w : Bool) (x : Rule Bool) (t : Store) (s : State) (Q : Bool → State → Type 0) → s .store ≡ t
+      → (((u : State) → u .store ≡ t → Q w u) → Ends (x s) Q)
+      → ((u : State) → u .store ≡ t → Q (v && w) u) → Ends ((if v then x else give false) s) Q
+  unfolding give
+  ends-and true w x t s Q e i h = i h
+  ends-and false w x t s Q e i h = h s e
+
+  truth-ends : (b : Condition) (f : Bool) (t : Store) (s : State) (Q : Bool → State → Type 0) → s .store ≡ t
+      → ((u : State) → u .store ≡ t → Q (bval b t) u) → Ends (truth sum b f s) Q
+  unfolding truth bval give lower then′
+  truth-ends (Bc v) f t s Q e h = ends-const (Bool·beq v f) v t s Q e h
+  truth-ends (Not b) f t s Q e h = ends-then (truth sum b (not f) s) _ Q (truth-ends b (not f) t s _ e h)
+  truth-ends (And b c) f t s Q e h =
+      ends-then (truth sum b false s) _ Q (truth-ends b false t s _ e (λ s₁ e₁.
+      ends-and (bval b t) (bval c t) (truth sum c f) t s₁ Q e₁ (truth-ends c f t s₁ Q e₁) h))
+  truth-ends (Less a b) f t s Q e h =
+      ends-then (value sum a s) _ Q (value-ends a t s _ e (λ s₁ e₁.
+      ends-then (value sum b s₁) _ Q (value-ends b t s₁ _ e₁ (λ s₂ e₂.
+      ends-step s₂ _ Q (λ s₃ l₃ e₃. h _ (e₃ ∙ e₂))))))
 
   -- what a command that is done owes: the big-step rules lead to its store
   abbrev EndsC : Command → Rule (Unit {0}) → Type 1
-  EndsC c x = (n : ℕ) (s : Store) (Q : Unit {0} → State → Type 0)
-      → ((n′ : ℕ) (t : Store) → BigStep c s t → Q tt (state n′ t)) → Ends (x (state n s)) Q
+  EndsC c x = (t : Store) (s : State) (Q : Unit {0} → State → Type 0) → s .store ≡ t
+      → ((t′ : Store) (u : State) → u .store ≡ t′ → BigStep c t t′ → Q tt u) → Ends (x s) Q
 
   loop-ends : (b : Condition) (c : Command) → EndsC c (exec sum c)
       → (g : ℕ) → EndsC (WHILE b DO c) (loop sum g (truth sum b false) (exec sum c))
   unfolding loop give
-  loop-ends b c ic zero n s Q h = tt
-  loop-ends b c ic (suc g) n s Q h =
-      ends-then (truth sum b false (state n s)) _ Q (truth-ends b false n s _ (λ n₁ l₁.
-      ends-if (bval b s) _ _ (state n₁ s) Q
-      (λ e. ends-then (exec sum c (state n₁ s)) _ Q (ic n₁ s _ (λ n₂ t x.
-      ends-step n₂ t _ Q (λ n₃ l₃. loop-ends b c ic g n₃ t Q (λ n′ u y. h n′ u (while-true e x y))))))
-      (λ e. h n₁ s (while-false e))))
+  loop-ends b c ic zero t s Q e h = tt
+  loop-ends b c ic (suc g) t s Q e h =
+      ends-then (truth sum b false s) _ Q (truth-ends b false t s _ e (λ s₁ e₁.
+      ends-if (bval b t) _ _ s₁ Q
+      (λ v. ends-then (exec sum c s₁) _ Q (ic t s₁ _ e₁ (λ t₂ s₂ e₂ x.
+      ends-step s₂ _ Q (λ s₃ l₃ e₃. loop-ends b c ic g t₂ s₃ Q (e₃ ∙ e₂)
+      (λ t′ u k y. h t′ u k (while-true v x y))))))
+      (λ v. h t s₁ e₁ (while-false v))))
 
   exec-ends : (c : Command) → EndsC c (exec sum c)
-  unfolding exec give assign
-  exec-ends SKIP n s Q h = h n s skip
-  exec-ends (v := a) n s Q h =
-      ends-then (value sum a (state n s)) _ Q (value-ends a n s _ (λ n₁ l₁.
-      ends-step n₁ s (assign v (aval a s)) Q (λ n₂ l₂. h n₂ _ assigns)))
-  exec-ends (c ⨾ d) n s Q h =
-      ends-then (exec sum c (state n s)) _ Q (exec-ends c n s _ (λ n₁ t x.
-      exec-ends d n₁ t Q (λ n₂ u y. h n₂ u (seq x y))))
-  exec-ends (IF b THEN c ELSE d) n s Q h =
-      ends-then (truth sum b false (state n s)) _ Q (truth-ends b false n s _ (λ n₁ l₁.
-      ends-if (bval b s) _ _ (state n₁ s) Q
-      (λ e. ends-then (exec sum c (state n₁ s)) _ Q (exec-ends c n₁ s _ (λ n₂ t x.
-      ends-tick n₂ t Q (λ n₃ l₃. h n₃ t (if-true e x)))))
-      (λ e. exec-ends d n₁ s Q (λ n₂ t x. h n₂ t (if-false e x)))))
-  exec-ends (WHILE b DO c) n s Q h = loop-ends b c (exec-ends c) (suc n) n s Q h
+  unfolding exec give assign lower then′
+  exec-ends SKIP t s Q e h = h t s e skip
+  exec-ends (v := a) t s Q e h =
+      ends-then (value sum a s) _ Q (value-ends a t s _ e (λ s₁ e₁.
+      ends-step s₁ _ Q (λ s₂ l₂ e₂. h _ _ (ap (λ u. set u v (aval a t)) (e₂ ∙ e₁)) assigns)))
+  exec-ends (c ⨾ d) t s Q e h =
+      ends-then (exec sum c s) _ Q (exec-ends c t s _ e (λ t₁ s₁ e₁ x.
+      exec-ends d t₁ s₁ Q e₁ (λ t₂ s₂ e₂ y. h t₂ s₂ e₂ (seq x y))))
+  exec-ends (IF b THEN c ELSE d) t s Q e h =
+      ends-then (truth sum b false s) _ Q (truth-ends b false t s _ e (λ s₁ e₁.
+      ends-if (bval b t) _ _ s₁ Q
+      (λ v. ends-then (exec sum c s₁) _ Q (exec-ends c t s₁ _ e₁ (λ t₂ s₂ e₂ x.
+      ends-tick s₂ Q (λ s₃ l₃ e₃. h t₂ s₃ (e₃ ∙ e₂) (if-true v x)))))
+      (λ v. exec-ends d t s₁ Q e₁ (λ t₂ s₂ e₂ x. h t₂ s₂ e₂ (if-false v x)))))
+  exec-ends (WHILE b DO c) t s Q e h = loop-ends b c (exec-ends c) (suc (s .left)) t s Q e h
 
-  done-bigstep : (c : Command) (n n′ : ℕ) (s t : Store) → exec sum c (state n s) ≡ ok tt (state n′ t)
+  done-bigstep : (c : Command) (n : ℕ) (s t : Store) (u : State) → exec sum c (start n s) ≡ ok tt u → u .store ≡ t
       → BigStep c s t
-  done-bigstep c n n′ s t e =
-      subst (λ r. Ends r (λ _ u. BigStep c s (u .store))) e
-      (exec-ends c n s (λ _ u. BigStep c s (u .store)) (λ n′ t x. x))
+  done-bigstep c n s t u e k =
+      subst (BigStep c s) k
+      (subst (λ r. Ends r (λ _ u. BigStep c s (u .store))) e
+      (exec-ends c s (start n s) (λ _ u. BigStep c s (u .store)) refl (λ t′ u k x. subst (BigStep c s) (sym k) x)))
 
 -- ---- From big-step to ticks
 
 -- the outcome a with r ticks left and the store t; or an end out of range
 abbrev Yields : {A : Type 0} → Outcomes A → A → ℕ → Store → Type 0
-Yields x a r t = (x ≡ ok a (state r t)) ⊎ ((u : State) × (x ≡ ended (Early.out-of-range, u)))
+Yields x a r t =
+    ((u : State) × (x ≡ ok a u) × (u .left ≡ r) × (u .store ≡ t)) ⊎ ((u : Ending) × (x ≡ ended (Early.out-of-range, u)))
 
--- x takes k ticks: with any r more it yields a and t, and those r
+-- x takes k ticks: from any state with the store s and any r ticks more it yields a and t, and those r
 abbrev Gives : {A : Type 0} → Rule A → Store → A → Store → Type 0
-Gives x s a t = (k : ℕ) × ((r : ℕ) → Yields (x (state (k + r) s)) a r t)
+Gives x s a t = (k : ℕ) × ((v : State) (r : ℕ) → v .left ≡ k + r → v .store ≡ s → Yields (x v) a r t)
 
 gives-then : {A B : Type 0} (x : Rule A) (f : A → Rule B) (s t u : Store) (a : A) (b : B)
     → Gives x s a t → Gives (f a) t b u → Gives (x >>= f) s b u
 unfolding then′
-gives-then x f s t u a b (k, h) (j, i) = (k + j, λ r. go r (h (j + r)) (i r))
+gives-then x f s t u a b (k, h) (j, i) = (k + j, λ v r l e. go v r (h v (j + r) (l ∙ add-assoc k j r) e))
   where
-    same : (r : ℕ) → x (state (k + j + r) s) ≡ x (state (k + (j + r)) s)
-    same r = ap (λ n. x (state n s)) (add-assoc k j r)
+    on : (v w : State) (r : ℕ) → x v ≡ ok a w → Yields (f a w) b r u → Yields (then′ (x v) f) b r u
+    on v w r p (inl (w′, q, l, e)) = inl (w′, ap (λ o. then′ o f) p ∙ q, l, e)
+    on v w r p (inr (w′, q)) = inr (w′, ap (λ o. then′ o f) p ∙ q)
 
-    go : (r : ℕ) → Yields (x (state (k + (j + r)) s)) a (j + r) t → Yields (f a (state (j + r) t)) b r u
-        → Yields (then′ (x (state (k + j + r) s)) f) b r u
-    go r (inl e) (inl e′) = inl (ap (λ w. then′ w f) (same r ∙ e) ∙ e′)
-    go r (inl e) (inr (w, e′)) = inr (w, ap (λ w. then′ w f) (same r ∙ e) ∙ e′)
-    go r (inr (w, e)) i = inr (w, ap (λ w. then′ w f) (same r ∙ e))
+    go : (v : State) (r : ℕ) → Yields (x v) a (j + r) t → Yields (then′ (x v) f) b r u
+    go v r (inl (w, p, l, e)) = on v w r p (i w r l e)
+    go v r (inr (w, p)) = inr (w, ap (λ o. then′ o f) p)
 
-gives-free : {A : Type 0} (x : Rule A) (s t : Store) (a : A) → ((n : ℕ) → Yields (x (state n s)) a n t)
-    → Gives x s a t
-gives-free x s t a h = (0, λ r. subst (λ n. Yields (x (state n s)) a r t) (sym (zero-add r)) (h r))
+gives-free : {A : Type 0} (x : Rule A) (s t : Store) (a : A)
+    → ((v : State) → v .store ≡ s → Yields (x v) a (v .left) t) → Gives x s a t
+gives-free x s t a h = (0, λ v r l e. subst (λ n. Yields (x v) a n t) (l ∙ zero-add r) (h v e))
 
-gives-cong : {A : Type 0} (x y : Rule A) (s t : Store) (a : A) → ((n : ℕ) → x (state n s) ≡ y (state n s))
+gives-cong : {A : Type 0} (x y : Rule A) (s t : Store) (a : A) → ((v : State) → x v ≡ y v)
     → Gives y s a t → Gives x s a t
-gives-cong x y s t a e (k, h) = (k, λ r. subst (λ w. Yields w a r t) (sym (e (k + r))) (h r))
+gives-cong x y s t a q (k, h) = (k, λ v r l e. subst (λ w. Yields w a r t) (sym (q v)) (h v r l e))
 
 gives-tick : (s : Store) → Gives tick s tt s
 unfolding tick charge
-gives-tick s = (1, λ r. inl (ap (λ n. tick (state n s)) (one r)))
+gives-tick s =
+    (1, λ v r l e. inl (state r (v .height) (v .mark) (v .store), ap (λ n. charge n v) (l ∙ one r), refl, e))
   where
     one : (r : ℕ) → 1 + r ≡ suc r
     one r = omega arith
 
 gives-give : {A : Type 0} (a : A) (s : Store) → Gives (give a) s a s
 unfolding give
-gives-give a s = gives-free (give a) s s a (λ n. inl refl)
+gives-give a s = gives-free (give a) s s a (λ v e. inl (v, refl, refl, e))
 
 -- a tick and then x
 gives-step : {A : Type 0} (x : Rule A) (s t : Store) (a : A) → Gives x s a t → Gives (tick >> x) s a t
 gives-step x s t a h = gives-then tick (λ _. x) s s t tt a (gives-tick s) h
 
+-- a value more or fewer on the stack, and then x
+gives-raise : {A : Type 0} (x : Rule A) (s t : Store) (a : A) → Gives x s a t → Gives (raise >> x) s a t
+unfolding raise
+gives-raise x s t a h =
+    gives-then raise (λ _. x) s s t tt a (gives-free raise s s tt (λ v e. inl (_, refl, refl, e))) h
+
+gives-lower : {A : Type 0} (k : ℕ) (x : Rule A) (s t : Store) (a : A) → Gives x s a t → Gives (lower k >> x) s a t
+unfolding lower
+gives-lower k x s t a h =
+    gives-then (lower k) (λ _. x) s s t tt a (gives-free (lower k) s s tt (λ v e. inl (_, refl, refl, e))) h
+
 module _ (sum : SumRule) (exact : Exact sum) where
   gives-sum : (x y : ℤ) (s : Store) → Gives (add sum x y) s (x +ℤ y) s
   unfolding add total
-  gives-sum x y s = gives-free (add sum x y) s s (x +ℤ y) (λ n. go n (sum n x y) refl)
+  gives-sum x y s = gives-free (add sum x y) s s (x +ℤ y) (λ v e. go v e (sum (v .left) x y) refl)
     where
-      go : (n : ℕ) (r : Sum) → sum n x y ≡ r → Yields (total r (state n s)) (x +ℤ y) n s
-      go n (Fits z) e = inl (ap (λ w. ok w (state n s)) (exact n x y z e))
-      go n Out e = inr (state n s, refl)
+      go : (v : State) → v .store ≡ s → (r : Sum) → sum (v .left) x y ≡ r
+          → Yields (total r v) (x +ℤ y) (v .left) s
+      go v e (Fits z) k = inl (v, ap (λ w. ok w v) (exact (v .left) x y z k), refl, e)
+      go v e Out k = inr (_, refl)
 
   value-gives : (a : Expression) (s : Store) → Gives (value sum a) s (aval a s) s
   unfolding value aval cell
-  value-gives (Constant w z) s = gives-step (give z) s s z (gives-give z s)
-  value-gives (Variable v) s = gives-step (cell v) s s _
-      (gives-free (cell v) s s (getD s v (pos 0)) (λ n. inl refl))
+  value-gives (Constant w z) s = gives-step _ s s z (gives-raise (give z) s s z (gives-give z s))
+  value-gives (Variable v) s = gives-step _ s s _
+      (gives-raise (cell v) s s _ (gives-free (cell v) s s (getD s v (pos 0))
+      (λ u e. inl (u, ap (λ t. ok (getD t v (pos 0)) u) e, refl, e))))
   value-gives (Plus a b) s =
       gives-then (value sum a) _ s s s (aval a s) _ (value-gives a s)
       (gives-then (value sum b) _ s s s (aval b s) _ (value-gives b s)
-      (gives-step (add sum (aval a s) (aval b s)) s s _ (gives-sum (aval a s) (aval b s) s)))
+      (gives-step _ s s _ (gives-lower 1 (add sum (aval a s) (aval b s)) s s _ (gives-sum (aval a s) (aval b s) s))))
 
   gives-const : (t v : Bool) (s : Store) → Gives (if t then (tick >> give v) else give v) s v s
   gives-const true v s = gives-step (give v) s s v (gives-give v s)
@@ -191,7 +218,8 @@ module _ (sum : SumRule) (exact : Exact sum) where
   truth-gives (Less a b) f s =
       gives-then (value sum a) _ s s s (aval a s) _ (value-gives a s)
       (gives-then (value sum b) _ s s s (aval b s) _ (value-gives b s)
-      (gives-step (give (ltZ (aval a s) (aval b s))) s s _ (gives-give (ltZ (aval a s) (aval b s)) s)))
+      (gives-step _ s s _
+      (gives-lower 2 (give (ltZ (aval a s) (aval b s))) s s _ (gives-give (ltZ (aval a s) (aval b s)) s))))
 
   -- a condition and then the branch that it chooses
   gives-if : (b : Condition) (v : Bool) (x y : Rule (Unit {0})) (s t : Store) → bval b s ≡ v
@@ -205,14 +233,15 @@ module _ (sum : SumRule) (exact : Exact sum) where
       → Gives (exec sum (WHILE b DO c)) s tt t
   gives-pass b c s t =
       gives-cong (exec sum (WHILE b DO c)) (pass sum b c (exec sum (WHILE b DO c))) s t tt
-      (λ n. while-unfold sum b c n s)
+      (again sum b c)
 
   bigstep-gives : (c : Command) (s t : Store) → BigStep c s t → Gives (exec sum c) s tt t
   unfolding exec assign
   bigstep-gives c s t (skip) = gives-give tt s
   bigstep-gives c s t (assigns {v = v} {a = a}) =
       gives-then (value sum a) _ s s t (aval a s) tt (value-gives a s)
-      (gives-step (assign v (aval a s)) s t tt (gives-free (assign v (aval a s)) s t tt (λ n. inl refl)))
+      (gives-step _ s t tt (gives-lower 1 (assign v (aval a s)) s t tt (gives-free (assign v (aval a s)) s t tt
+      (λ u e. inl (_, refl, refl, ap (λ t. set t v (aval a s)) e)))))
   bigstep-gives c s t (seq {c = c₁} {d = d} {t = u} x y) =
       gives-then (exec sum c₁) _ s u t tt tt (bigstep-gives c₁ s u x) (bigstep-gives d u t y)
   bigstep-gives c s t (if-true {b = b} {c = c₁} {d = d} e x) =
@@ -229,12 +258,14 @@ module _ (sum : SumRule) (exact : Exact sum) where
       (gives-step w t u tt (bigstep-gives (WHILE b DO c₁) t u y))))
 
   pub published-by : PublishedBy sum
-  published-by c s fine t = ((λ (n, n′, e). done-bigstep sum exact c n n′ s t e), (λ x. pick (bigstep-gives c s t x)))
+  published-by c s fine t =
+      ((λ (n, u, e, k). done-bigstep sum exact c n s t u e k), (λ x. pick (bigstep-gives c s t x)))
     where
-      pick-at : (k : ℕ) → Yields (exec sum c (state (k + 0) s)) tt 0 t
-          → (n : ℕ) × (n′ : ℕ) × (exec sum c (state n s) ≡ ok tt (state n′ t))
-      pick-at k (inl e) = (k + 0, 0, e)
-      pick-at k (inr (u, e)) = absurd (fine (k + 0) u e)
+      pick-at : (k : ℕ) → Yields (exec sum c (start k s)) tt 0 t
+          → (n : ℕ) × (u : State) × (exec sum c (start n s) ≡ ok tt u) × (u .store ≡ t)
+      pick-at k (inl (u, e, l, q)) = (k, u, e, q)
+      pick-at k (inr (u, e)) = absurd (fine k u e)
 
-      pick : Gives (exec sum c) s tt t → (n : ℕ) × (n′ : ℕ) × (exec sum c (state n s) ≡ ok tt (state n′ t))
-      pick (k, h) = pick-at k (h 0)
+      pick : Gives (exec sum c) s tt t
+          → (n : ℕ) × (u : State) × (exec sum c (start n s) ≡ ok tt u) × (u .store ≡ t)
+      pick (k, h) = pick-at k (h (start k s) 0 (omega arith) refl)

@@ -1,20 +1,16 @@
 -- The ticks left never grow, so WHILE is its first pass and then itself, whatever the passes allowed.
--- `Ends r Q` says that Q holds of an outcome that is no end; it is shown by going on, never by inversion.
+-- `Ends r Q` says that Q holds of an outcome that is no end; it is shown by going on, never by inversion. Of the states
+-- on the way it says only what is needed: the ticks left and the store.
 use mathlib.Core.Path.{_≡_, refl}
 use Prim.Native.Nat.{ℕ, zero, suc, _≤_, _<_}
 use native.Mathlib.Omega.{arith}
-use mathlib.Core.Bool.{Bool, true, false, not, Bool·beq}
-use lib.IntN.{ℤ}
-use lib.Signed.{ltZ}
+use mathlib.Core.Bool.{Bool, true, false}
 use Rattle.base.specs.Acts.{ok, ended, then′, _>>=_, _>>_, give, if_then_else_}
 use Rattle.word.specs.Sums.{SumRule}
-use Rattle.word.specs.declared.Sum.{Sum}
-use Rattle.word.specs.declared.Sum.the-variants.{Fits, Out}
-use Rattle.text.specs.Syntax.{Expression, Constant, Variable, Plus, Condition, Bc, Not, And, Less, Command, SKIP}
-use Rattle.text.specs.Syntax.{_:=_, _⨾_, IF_THEN_ELSE_, WHILE_DO_}
-use Rattle.source.specs.Rules.{State, Store, state, Rule, Outcomes, charge, tick, cell, assign, total, add}
-use Rattle.source.specs.Rules.{value, truth, loop, exec}
+use Rattle.text.specs.Syntax.{Condition, Command}
+use Rattle.source.specs.Rules.{State, Rule, Outcomes, charge, tick, truth, loop, exec}
 use Rattle.source.specs.Claims.{Again}
+use Rattle.source.proofs.Ticks.{Low, low-truth, low-exec}
 
 -- what an outcome that is no end owes
 abbrev pub Ends : {A : Type 0} → Outcomes A → (A → State → Type 0) → Type 0
@@ -33,22 +29,22 @@ unfolding then′
 then-cong (ok a s) f g h = h
 then-cong (ended e) f g h = refl
 
-pub ends-tick : (n : ℕ) (s : Store) (Q : Unit {0} → State → Type 0)
-    → ((n′ : ℕ) → n′ < n → Q tt (state n′ s)) → Ends (tick (state n s)) Q
-unfolding tick charge
-ends-tick zero s Q h = tt
-ends-tick (suc n) s Q h = h n (omega arith)
+ends-charge : (n : ℕ) (s : State) (Q : Unit {0} → State → Type 0)
+    → ((u : State) → u .left < n → u .store ≡ s .store → Q tt u) → Ends (charge n s) Q
+unfolding charge
+ends-charge zero s Q h = tt
+ends-charge (suc n) s Q h = h _ (omega arith) refl
+
+pub ends-tick : (s : State) (Q : Unit {0} → State → Type 0)
+    → ((u : State) → u .left < s .left → u .store ≡ s .store → Q tt u) → Ends (tick s) Q
+unfolding tick
+ends-tick s Q h = ends-charge (s .left) s Q h
 
 -- a tick and then f
-pub ends-step : {A : Type 0} (n : ℕ) (s : Store) (f : Rule A) (Q : A → State → Type 0)
-    → ((n′ : ℕ) → n′ < n → Ends (f (state n′ s)) Q) → Ends (then′ (tick (state n s)) (λ _. f)) Q
-ends-step n s f Q h = ends-then (tick (state n s)) (λ _. f) Q (ends-tick n s _ h)
-
-pub ends-const : (t v : Bool) (n : ℕ) (s : Store) (Q : Bool → State → Type 0)
-    → ((n′ : ℕ) → n′ ≤ n → Q v (state n′ s)) → Ends ((if t then (tick >> give v) else give v) (state n s)) Q
-unfolding give
-ends-const true v n s Q h = ends-step n s (give v) Q (λ n′ l. h n′ (omega arith))
-ends-const false v n s Q h = h n (omega arith)
+pub ends-step : {A : Type 0} (s : State) (f : Rule A) (Q : A → State → Type 0)
+    → ((u : State) → u .left < s .left → u .store ≡ s .store → Ends (f u) Q)
+    → Ends (then′ (tick s) (λ _. f)) Q
+ends-step s f Q h = ends-then (tick s) (λ _. f) Q (ends-tick s _ h)
 
 pub ends-if : {A : Type 0} (v : Bool) (x y : Rule A) (s : State) (Q : A → State → Type 0)
     → (v ≡ true → Ends (x s) Q) → (v ≡ false → Ends (y s) Q) → Ends ((if v then x else y) s) Q
@@ -60,102 +56,40 @@ if-cong : {A : Type 0} (v : Bool) (x x′ y : Rule A) (s : State) → x s ≡ x�
 if-cong true x x′ y s h = h
 if-cong false x x′ y s h = refl
 
--- ---- The ticks left never grow; an expression and a condition leave the store
+-- an outcome with at most n ticks left
+ends-low : {A : Type 0} (n : ℕ) (r : Outcomes A) (Q : A → State → Type 0) → Low n r
+    → ((a : A) (u : State) → u .left ≤ n → Q a u) → Ends r Q
+unfolding Low
+ends-low n (ok a u) Q l h = h a u l
+ends-low n (ended e) Q l h = tt
+
+-- ---- WHILE is its first pass and then itself
 
 module _ (sum : SumRule) where
-  sum-falls : (r : Sum) (s : State) (Q : ℤ → State → Type 0) → ((z : ℤ) → Q z s) → Ends (total r s) Q
-  unfolding total
-  sum-falls (Fits z) s Q h = h z
-  sum-falls Out s Q h = tt
-
-  value-falls : (a : Expression) (n : ℕ) (s : Store) (Q : ℤ → State → Type 0)
-      → ((z : ℤ) (n′ : ℕ) → n′ ≤ n → Q z (state n′ s)) → Ends (value sum a (state n s)) Q
-  unfolding value give cell add
-  value-falls (Constant w z) n s Q h = ends-step n s (give z) Q (λ n′ l. h z n′ (omega arith))
-  value-falls (Variable v) n s Q h = ends-step n s (cell v) Q (λ n′ l. h _ n′ (omega arith))
-  value-falls (Plus a b) n s Q h =
-      ends-then (value sum a (state n s)) _ Q (value-falls a n s _ (λ x n₁ l₁.
-      ends-then (value sum b (state n₁ s)) _ Q (value-falls b n₁ s _ (λ y n₂ l₂.
-      ends-step n₂ s (add sum x y) Q
-      (λ n₃ l₃. sum-falls (sum n₃ x y) (state n₃ s) Q (λ z. h z n₃ (omega arith)))))))
-
-  truth-falls : (b : Condition) (f : Bool) (n : ℕ) (s : Store) (Q : Bool → State → Type 0)
-      → ((v : Bool) (n′ : ℕ) → n′ ≤ n → Q v (state n′ s)) → Ends (truth sum b f (state n s)) Q
-  unfolding truth give
-  truth-falls (Bc v) f n s Q h = ends-const (Bool·beq v f) v n s Q (h v)
-  truth-falls (Not b) f n s Q h =
-      ends-then (truth sum b (not f) (state n s)) _ Q (truth-falls b (not f) n s _ (λ v. h (not v)))
-  truth-falls (And b c) f n s Q h =
-      ends-then (truth sum b false (state n s)) _ Q (truth-falls b false n s _ (λ v n₁ l₁.
-      ends-if v _ _ (state n₁ s) Q (λ e. truth-falls c f n₁ s Q (λ w n′ l. h w n′ (omega arith)))
-      (λ e. h false n₁ l₁)))
-  truth-falls (Less a b) f n s Q h =
-      ends-then (value sum a (state n s)) _ Q (value-falls a n s _ (λ x n₁ l₁.
-      ends-then (value sum b (state n₁ s)) _ Q (value-falls b n₁ s _ (λ y n₂ l₂.
-      ends-step n₂ s (give (ltZ x y)) Q (λ n₃ l₃. h (ltZ x y) n₃ (omega arith))))))
-
-  abbrev Falls : Rule (Unit {0}) → Type 1
-  Falls x = (n : ℕ) (s : Store) (Q : Unit {0} → State → Type 0)
-      → ((n′ : ℕ) (t : Store) → n′ ≤ n → Q tt (state n′ t)) → Ends (x (state n s)) Q
-
-  loop-falls : (b : Condition) (c : Command) → Falls (exec sum c) → (g : ℕ)
-      → Falls (loop sum g (truth sum b false) (exec sum c))
-  unfolding loop give
-  loop-falls b c ic zero n s Q h = tt
-  loop-falls b c ic (suc g) n s Q h =
-      ends-then (truth sum b false (state n s)) _ Q (truth-falls b false n s _ (λ v n₁ l₁.
-      ends-if v _ _ (state n₁ s) Q
-      (λ e. ends-then (exec sum c (state n₁ s)) _ Q (ic n₁ s _ (λ n₂ t l₂.
-      ends-step n₂ t _ Q (λ n₃ l₃. loop-falls b c ic g n₃ t Q (λ n′ u l′. h n′ u (omega arith))))))
-      (λ e. h n₁ s l₁)))
-
-  exec-falls : (c : Command) → Falls (exec sum c)
-  unfolding exec give assign
-  exec-falls SKIP n s Q h = h n s (omega arith)
-  exec-falls (v := a) n s Q h =
-      ends-then (value sum a (state n s)) _ Q (value-falls a n s _ (λ z n₁ l₁.
-      ends-step n₁ s (assign v z) Q (λ n₂ l₂. h n₂ _ (omega arith))))
-  exec-falls (c ⨾ d) n s Q h =
-      ends-then (exec sum c (state n s)) _ Q (exec-falls c n s _ (λ n₁ t l₁.
-      exec-falls d n₁ t Q (λ n₂ u l₂. h n₂ u (omega arith))))
-  exec-falls (IF b THEN c ELSE d) n s Q h =
-      ends-then (truth sum b false (state n s)) _ Q (truth-falls b false n s _ (λ v n₁ l₁.
-      ends-if v _ _ (state n₁ s) Q
-      (λ e. ends-then (exec sum c (state n₁ s)) _ Q (exec-falls c n₁ s _ (λ n₂ t l₂.
-      ends-tick n₂ t Q (λ n₃ l₃. h n₃ t (omega arith)))))
-      (λ e. exec-falls d n₁ s Q (λ n₂ t l₂. h n₂ t (omega arith)))))
-  exec-falls (WHILE b DO c) n s Q h = loop-falls b c (exec-falls c) (suc n) n s Q h
-
-  -- ---- WHILE is its first pass and then itself
-
   -- a pass of WHILE, with r for the passes after it
   abbrev pub pass : Condition → Command → Rule (Unit {0}) → Rule (Unit {0})
   pass b c r = truth sum b false >>= λ v. if v then (exec sum c >> (tick >> r)) else give tt
 
   -- r or r′, which agree at fewer ticks
-  pass-cong : (b : Condition) (c : Command) (r r′ : Rule (Unit {0})) (n : ℕ) (s : Store)
-      → ((n′ : ℕ) (t : Store) → n′ < n → r (state n′ t) ≡ r′ (state n′ t))
-      → pass b c r (state n s) ≡ pass b c r′ (state n s)
-  pass-cong b c r r′ n s h =
-      then-cong (truth sum b false (state n s)) _ _ (truth-falls b false n s _ (λ v n₁ l₁.
-      if-cong v _ _ _ (state n₁ s)
-      (then-cong (exec sum c (state n₁ s)) _ _ (exec-falls c n₁ s _ (λ n₂ t l₂.
-      then-cong (tick (state n₂ t)) _ _ (ends-tick n₂ t _ (λ n₃ l₃. h n₃ t (omega arith))))))))
+  pass-cong : (b : Condition) (c : Command) (r r′ : Rule (Unit {0})) (s : State)
+      → ((u : State) → u .left < s .left → r u ≡ r′ u) → pass b c r s ≡ pass b c r′ s
+  pass-cong b c r r′ s h =
+      then-cong (truth sum b false s) _ _
+      (ends-low (s .left) (truth sum b false s) _ (low-truth sum b false (s .left) s (omega arith)) (λ v s₁ l₁.
+      if-cong v _ _ _ s₁
+      (then-cong (exec sum c s₁) _ _
+      (ends-low (s .left) (exec sum c s₁) _ (low-exec sum c (s .left) s₁ l₁) (λ _ s₂ l₂.
+      then-cong (tick s₂) _ _ (ends-tick s₂ _ (λ s₃ l₃ e. h s₃ (omega arith))))))))
 
-  loop-passes : (b : Condition) (c : Command) (g g′ n : ℕ) (s : Store) → n < g → n < g′
-      → loop sum g (truth sum b false) (exec sum c) (state n s)
-      ≡ loop sum g′ (truth sum b false) (exec sum c) (state n s)
+  loop-passes : (b : Condition) (c : Command) (g g′ : ℕ) (s : State) → s .left < g → s .left < g′
+      → loop sum g (truth sum b false) (exec sum c) s ≡ loop sum g′ (truth sum b false) (exec sum c) s
   unfolding loop
-  loop-passes b c zero g′ n s l l′ = absurd (omega arith)
-  loop-passes b c (suc g) zero n s l l′ = absurd (omega arith)
-  loop-passes b c (suc g) (suc g′) n s l l′ =
-      pass-cong b c _ _ n s (λ n′ t k. loop-passes b c g g′ n′ t (omega arith) (omega arith))
-
-  pub while-unfold : (b : Condition) (c : Command) (n : ℕ) (s : Store)
-      → exec sum (WHILE b DO c) (state n s) ≡ pass b c (exec sum (WHILE b DO c)) (state n s)
-  unfolding loop exec
-  while-unfold b c n s =
-      pass-cong b c _ _ n s (λ n′ t k. loop-passes b c n (suc n′) n′ t (omega arith) (omega arith))
+  loop-passes b c zero g′ s l l′ = absurd (omega arith)
+  loop-passes b c (suc g) zero s l l′ = absurd (omega arith)
+  loop-passes b c (suc g) (suc g′) s l l′ =
+      pass-cong b c _ _ s (λ u k. loop-passes b c g g′ u (omega arith) (omega arith))
 
   pub again : Again sum
-  again b c s = while-unfold b c (s .left) (s .store)
+  unfolding loop exec
+  again b c s =
+      pass-cong b c _ _ s (λ u k. loop-passes b c (s .left) (suc (u .left)) u (omega arith) (omega arith))

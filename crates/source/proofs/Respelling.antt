@@ -10,7 +10,7 @@ use Rattle.text.specs.Syntax.{Expression, Constant, Variable, Plus, Condition, 
 use Rattle.text.specs.Syntax.{_:=_, _⨾_, IF_THEN_ELSE_, WHILE_DO_}
 use Rattle.text.specs.Respelling.{expression-in-full, condition-in-full, in-full}
 use Rattle.text.proofs.Respelling.{of-both}
-use Rattle.source.specs.Rules.{tick, assign, add, value, truth, loop, exec}
+use Rattle.source.specs.Rules.{tick, lower, assign, add, value, truth, loop, exec}
 use Rattle.source.specs.Claims.{SameRuns}
 
 module _ (sum : SumRule) where
@@ -18,7 +18,7 @@ module _ (sum : SumRule) where
   unfolding expression-in-full value
   value-in-full (Constant w z) = refl
   value-in-full (Variable v) = refl
-  value-in-full (Plus a b) = λ i. do x ← value-in-full a i; y ← value-in-full b i; tick; add sum x y
+  value-in-full (Plus a b) = λ i. do x ← value-in-full a i; y ← value-in-full b i; tick; lower 1; add sum x y
 
   truth-in-full : (b : Condition) (flag : Bool) → truth sum (condition-in-full b) flag ≡ truth sum b flag
   unfolding condition-in-full truth
@@ -26,12 +26,12 @@ module _ (sum : SumRule) where
   truth-in-full (Not b) flag = λ i. do v ← truth-in-full b (not flag) i; give (not v)
   truth-in-full (And b c) flag = λ i.
       do v ← truth-in-full b false i; if v then truth-in-full c flag i else give false
-  truth-in-full (Less a b) flag = λ i. do x ← value-in-full a i; y ← value-in-full b i; tick; give (ltZ x y)
+  truth-in-full (Less a b) flag = λ i. do x ← value-in-full a i; y ← value-in-full b i; tick; lower 2; give (ltZ x y)
 
   exec-in-full : (c : Command) → exec sum (in-full c) ≡ exec sum c
   unfolding in-full exec
   exec-in-full SKIP = refl
-  exec-in-full (v := a) = λ i. do z ← value-in-full a i; tick; assign v z
+  exec-in-full (v := a) = λ i. do z ← value-in-full a i; tick; lower 1; assign v z
   exec-in-full (c ⨾ d) = λ i. do exec-in-full c i; exec-in-full d i
   exec-in-full (IF b THEN c ELSE d) = λ i.
       do t ← truth-in-full b false i; if t then (do exec-in-full c i; tick) else exec-in-full d i

@@ -10,7 +10,8 @@ use Rattle.word.specs.declared.Sum.the-variants.{Fits, Out}
 use Rattle.text.specs.Syntax.{Expression, Constant, Variable, Plus, Condition, Bc, Not, And, Less, Command, SKIP}
 use Rattle.text.specs.Syntax.{_:=_, _⨾_, IF_THEN_ELSE_, WHILE_DO_}
 use Rattle.source.specs.Claims.{Agreed}
-use Rattle.source.specs.Rules.{Early, State, Rule, Outcomes, tick, total, add, value, truth, loop, exec}
+use Rattle.source.specs.Rules.{Early, State, Ending, Rule, Outcomes, tick, lower, total, add, value, truth}
+use Rattle.source.specs.Rules.{loop, exec}
 
 -- r′ is r, unless r ended out of range
 Agree : {A : Type 0} → Outcomes A → Outcomes A → Type 0
@@ -31,12 +32,17 @@ agree-then (ok a s) r′ f f′ e h = subst (λ x. Agree (f a s) (then′ x f′
 agree-then (ended (Early.spent, s)) r′ f f′ e h = ap (λ x. then′ x f′) e
 agree-then (ended (Early.out-of-range, s)) r′ f f′ e h = tt
 
+-- the same outcome, and then f or f′
+agree-on : {A B : Type 0} (r : Outcomes A) (f f′ : A → Rule B) → ((a : A) (s : State) → Agree (f a s) (f′ a s))
+    → Agree (then′ r f) (then′ r f′)
+agree-on r f f′ h = agree-then r r f f′ (agree-refl r) h
+
 agree-if : {A : Type 0} (v : Bool) (x x′ y y′ : Rule A) (s : State) → Agree (x s) (x′ s) → Agree (y s) (y′ s)
     → Agree ((if v then x else y) s) ((if v then x′ else y′) s)
 agree-if true x x′ y y′ s h k = h
 agree-if false x x′ y y′ s h k = k
 
-agreed-end : {A : Type 0} (r r′ : Outcomes A) → Agree r r′ → ((s : State) → r ≡ ended (Early.out-of-range, s) → ⊥)
+agreed-end : {A : Type 0} (r r′ : Outcomes A) → Agree r r′ → ((u : Ending) → r ≡ ended (Early.out-of-range, u) → ⊥)
     → r′ ≡ r
 unfolding Agree
 agreed-end (ok a s) r′ h k = h
@@ -59,7 +65,7 @@ module _ (S H : SumRule) (same : (n : ℕ) (x y z : ℤ) → S n x y ≡ Fits z 
   value-agree (Plus a b) s =
       agree-then (value S a s) _ _ _ (value-agree a s) (λ x s₁.
       agree-then (value S b s₁) _ _ _ (value-agree b s₁) (λ y s₂.
-      agree-then (tick s₂) _ _ _ (agree-refl (tick s₂)) (λ _ s₃. sum-agree x y s₃)))
+      agree-on (tick s₂) _ _ (λ _ s₃. agree-on (lower 1 s₃) _ _ (λ _ s₄. sum-agree x y s₄))))
 
   truth-agree : (b : Condition) (f : Bool) (s : State) → Agree (truth S b f s) (truth H b f s)
   unfolding truth
@@ -76,12 +82,12 @@ module _ (S H : SumRule) (same : (n : ℕ) (x y z : ℤ) → S n x y ≡ Fits z 
       → ((s : State) → Agree (x s) (x′ s))
       → (g : ℕ) (s : State) → Agree (loop S g t x s) (loop H g t′ x′ s)
   unfolding loop
-  loop-agree t t′ x x′ h k zero s = agree-refl (ended (Early.spent, s))
+  loop-agree t t′ x x′ h k zero s = agree-refl _
   loop-agree t t′ x x′ h k (suc g) s =
       agree-then (t s) _ _ _ (h s) (λ v s₁.
       agree-if v _ _ _ _ s₁
       (agree-then (x s₁) _ _ _ (k s₁) (λ _ s₂.
-      agree-then (tick s₂) _ _ _ (agree-refl (tick s₂)) (λ _ s₃. loop-agree t t′ x x′ h k g s₃)))
+      agree-on (tick s₂) _ _ (λ _ s₃. loop-agree t t′ x x′ h k g s₃)))
       (agree-refl _))
 
   exec-agree : (c : Command) (s : State) → Agree (exec S c s) (exec H c s)

@@ -8,7 +8,7 @@ use mathlib.Core.List.{List}
 use lib.ListN.{length}
 use Rattle.base.specs.Acts.{ok, ended}
 use Rattle.base.specs.Answers.{Answer, gives}
-use Rattle.base.specs.Ends.{Fault, End, fault, Result, Ran, report}
+use Rattle.base.specs.Ends.{Fault, End, fault, Result, Ran, ran, report}
 use Rattle.base.proofs.Answers.{gives-one}
 use Rattle.word.specs.Sums.{sum32}
 use Rattle.word.proofs.Claims.{sum32-exact}
@@ -17,7 +17,7 @@ use Rattle.text.specs.Reading.{read-text}
 use Rattle.source.specs.BigStep.{BigStep}
 use Rattle.source.specs.Calls.{run-source}
 use Rattle.source.specs.Claims.{Published, PublishedTexts}
-use Rattle.source.specs.Rules.{Early, Store, Outcomes, state, exec, end-of, result-of, run-rules}
+use Rattle.source.specs.Rules.{Early, State, Store, Outcomes, start, exec, end-of, result-of, run-rules}
 use Rattle.source.proofs.Calls.{source-runs}
 use Rattle.source.proofs.Equivalence.{published-by}
 
@@ -26,15 +26,15 @@ published = published-by sum32 sum32-exact
 
 -- an outcome whose result is done
 done-outcome : (x : Outcomes (Unit {0})) → result-of x .end ≡ End.done
-    → (n : ℕ) × (x ≡ ok tt (state n (result-of x .leaves)))
+    → (u : State) × (x ≡ ok tt u) × (u .store ≡ result-of x .leaves)
 unfolding result-of end-of
-done-outcome (ok a s) e = (s .left, refl)
+done-outcome (ok a s) e = (s, refl, refl)
 done-outcome (ended (Early.spent, s)) e = absurd (let z : _≡_ {A = ℕ} 0 1 = cc in omega arith)
 done-outcome (ended (Early.out-of-range, s)) e = absurd (let z : _≡_ {A = ℕ} 0 1 = cc in omega arith)
 
 module _ (text : List ℕ) (c : Command) (read : read-text text ≡ gives c) (s : Store) (long : length s ≡ 64) where
   abbrev outcome : ℕ → Outcomes (Unit {0})
-  outcome budget = exec sum32 c (state budget s)
+  outcome budget = exec sum32 c (start budget s)
 
   -- what the call tells of an outcome
   abbrev telling : ℕ → Outcomes (Unit {0}) → Answer Ran × Store
@@ -44,40 +44,40 @@ module _ (text : List ℕ) (c : Command) (read : read-text text ≡ gives c) (s 
   told budget = source-runs text c s budget read long
 
   -- a call that tells an end and a store: so does its result
-  tells : (budget k : ℕ) (e : End) (t : Store)
-      → run-source text s budget ≡ (gives (record { end = e; count = k }), t)
+  tells : (budget k μ : ℕ) (e : End) (t : Store) → run-source text s budget ≡ (gives (ran e k μ), t)
       → (result-of (outcome budget) .end ≡ e) × (result-of (outcome budget) .leaves ≡ t)
-  tells budget k e t h =
-      let same : _≡_ {A = Answer Ran × Store} (telling budget (outcome budget))
-      (gives (record { end = e; count = k }), t) = sym (told budget) ∙ h in (
-        ap (λ (r : Ran). r .end) (gives-one (report budget (result-of (outcome budget)))
-            (record { end = e; count = k }) (ap (λ (x : Answer Ran × Store). x .0) same)),
+  tells budget k μ e t h =
+      let same : _≡_ {A = Answer Ran × Store} (telling budget (outcome budget)) (gives (ran e k μ), t) =
+      sym (told budget) ∙ h in (
+        ap (λ (r : Ran). r .end) (gives-one (report budget (result-of (outcome budget))) (ran e k μ)
+            (ap (λ (x : Answer Ran × Store). x .0) same)),
         ap (λ (x : Answer Ran × Store). x .1) same,
       )
 
-  same-stores : ((budget k : ℕ) (u : Store)
-      → run-source text s budget ≡ (gives (record { end = fault Fault.out-of-range; count = k }), u) → ⊥)
-      → (t : Store)
-      → ((budget : ℕ) × (k : ℕ) × (run-source text s budget ≡ (gives (record { end = End.done; count = k }), t)))
-      ↔ BigStep c s t
+  -- under some budget the call ends done with the store t
+  abbrev Done : Store → Type 0
+  Done t = (budget : ℕ) × (k : ℕ) × (μ : ℕ) × (run-source text s budget ≡ (gives (ran End.done k μ), t))
+
+  same-stores : ((budget k μ : ℕ) (u : Store)
+      → run-source text s budget ≡ (gives (ran (fault Fault.out-of-range) k μ), u) → ⊥)
+      → (t : Store) → Done t ↔ BigStep c s t
   unfolding result-of end-of
   same-stores fine t = (to, back)
     where
-      rules : ((n : ℕ) × (n′ : ℕ) × (exec sum32 c (state n s) ≡ ok tt (state n′ t))) ↔ BigStep c s t
-      rules = published c s (λ n u e. fine n (n - u .left) (u .store) (told n ∙ ap (telling n) e)) t
+      rules : ((n : ℕ) × (u : State) × (exec sum32 c (start n s) ≡ ok tt u) × (u .store ≡ t)) ↔ BigStep c s t
+      rules = published c s (λ n u e. fine n (n - u .left) (u .mark) (u .store) (told n ∙ ap (telling n) e)) t
 
-      to : ((budget : ℕ) × (k : ℕ) × (run-source text s budget ≡ (gives (record { end = End.done; count = k }), t)))
-          → BigStep c s t
-      to (n, k, h) =
-          let x = tells n k End.done t h in
-          let d = done-outcome (outcome n) (x .0) in
-          rules .0 (n, d .0, d .1 ∙ ap (λ u. ok tt (state (d .0) u)) (x .1))
+      to : Done t → BigStep c s t
+      to (n, k, μ, h) =
+          let x = tells n k μ End.done t h in
+          let o = done-outcome (outcome n) (x .0) in
+          rules .0 (n, o .0, o .1, o .2 ∙ x .1)
 
-      back : BigStep c s t
-          → ((budget : ℕ) × (k : ℕ) × (run-source text s budget ≡ (gives (record { end = End.done; count = k }), t)))
+      back : BigStep c s t → Done t
       back x =
-          let y = rules .1 x in
-          (y .0, y .0 - y .1, told (y .0) ∙ ap (telling (y .0)) (y .2))
+          let (n, u, e, k) = rules .1 x in
+          let r = ran End.done (n - u .left) (u .mark) in
+          (n, r .count, r .mark, told n ∙ ap (telling n) e ∙ ap (λ t. (gives r, t)) k)
 
 pub published-texts : PublishedTexts
 published-texts text c read s long = record { same = same-stores text c read s long }

@@ -9,8 +9,8 @@ use Rattle.word.specs.declared.Sum.{Sum}
 use Rattle.word.specs.declared.Sum.the-variants.{Fits, Out}
 use Rattle.text.specs.Syntax.{Expression, Constant, Variable, Plus, Condition, Bc, Not, And, Less, Command, SKIP}
 use Rattle.text.specs.Syntax.{_:=_, _⨾_, IF_THEN_ELSE_, WHILE_DO_}
-use Rattle.source.specs.Rules.{State, Rule, Outcomes, charge, tick, cell, assign, total, add, value}
-use Rattle.source.specs.Rules.{truth, loop, exec}
+use Rattle.source.specs.Rules.{State, Rule, Outcomes, charge, tick, raise, lower, cell, assign, total}
+use Rattle.source.specs.Rules.{add, value, truth, loop, exec}
 
 -- At most n ticks are left
 unfoldable pub Low : {A : Type 0} → ℕ → Outcomes A → Type 0
@@ -43,6 +43,15 @@ low-give : {A : Type 0} (a : A) → Lowers (give a)
 unfolding Low give
 low-give a n s h = h
 
+-- a value more on the stack, or k fewer, and then r
+low-raise : {A : Type 0} (r : Rule A) → Lowers r → Lowers (λ s. then′ (raise s) (λ _. r))
+unfolding raise then′
+low-raise r h n s p = h n _ p
+
+low-lower : {A : Type 0} (k : ℕ) (r : Rule A) → Lowers r → Lowers (λ s. then′ (lower k s) (λ _. r))
+unfolding lower then′
+low-lower k r h n s p = h n _ p
+
 low-cell : (v : ℕ) → Lowers (cell v)
 unfolding Low cell
 low-cell v n s h = h
@@ -67,11 +76,12 @@ module _ (sum : SumRule) where
 
   low-value : (a : Expression) → Lowers (value sum a)
   unfolding value
-  low-value (Constant w z) n s h = low-after (give z) (low-give z) n s h
-  low-value (Variable v) n s h = low-after (cell v) (low-cell v) n s h
+  low-value (Constant w z) n s h = low-after _ (low-raise (give z) (low-give z)) n s h
+  low-value (Variable v) n s h = low-after _ (low-raise (cell v) (low-cell v)) n s h
   low-value (Plus a b) n s h =
       low-then _
-      (λ x n s h. low-then _ (λ y. low-after (add sum x y) (low-add x y)) n (value sum b s) (low-value b n s h))
+      (λ x n s h. low-then _ (λ y. low-after _ (low-lower 1 (add sum x y) (low-add x y))) n (value sum b s)
+      (low-value b n s h))
       n (value sum a s) (low-value a n s h)
 
   pub low-truth : (b : Condition) (flag : Bool) → Lowers (truth sum b flag)
@@ -84,7 +94,8 @@ module _ (sum : SumRule) where
       (truth sum b false s) (low-truth b false n s h)
   low-truth (Less a b) flag n s h =
       low-then _
-      (λ x n s h. low-then _ (λ y. low-after (give _) (low-give _)) n (value sum b s) (low-value b n s h))
+      (λ x n s h. low-then _ (λ y. low-after _ (low-lower 2 (give _) (low-give _))) n (value sum b s)
+      (low-value b n s h))
       n (value sum a s) (low-value a n s h)
 
   low-loop : (passes : ℕ) (test : Rule Bool) (body : Rule (Unit {0})) → Lowers test → Lowers body
@@ -101,7 +112,7 @@ module _ (sum : SumRule) where
   unfolding exec
   low-exec SKIP n s h = low-give tt n s h
   low-exec (v := a) n s h =
-      low-then _ (λ z. low-after (assign v z) (low-assign v z)) n (value sum a s) (low-value a n s h)
+      low-then _ (λ z. low-after _ (low-lower 1 (assign v z) (low-assign v z))) n (value sum a s) (low-value a n s h)
   low-exec (c ⨾ d) n s h = low-then _ (λ _. low-exec d) n (exec sum c s) (low-exec c n s h)
   low-exec (IF b THEN c ELSE d) n s h =
       low-then _

@@ -6,7 +6,7 @@ use mathlib.Core.List.{List, [], _∷_, map}
 use lib.IntN.{ℤ, pos, negsuc}
 use lib.ListN.{length, getD, replicate}
 use Rattle.base.specs.Answers.{Answer, gives, refused}
-use Rattle.base.specs.Ends.{End, done, spent, fault, out-of-range, Ran}
+use Rattle.base.specs.Ends.{End, done, spent, fault, out-of-range, Ran, ran}
 use Rattle.text.specs.Cases.{B·text, J·text, texts, x64·text}
 use Rattle.source.specs.Rules.{Store}
 use Rattle.source.specs.Calls.{run-source}
@@ -18,20 +18,31 @@ zeros = replicate 64 (pos 0)
 abbrev pub with-x0 : Answer Ran × Store → Answer Ran × ℤ
 with-x0 (answer, store) = (answer, getD store 0 (pos 0))
 
-abbrev pub ran : End → ℕ → ℤ → Answer Ran × ℤ
-ran e k x = (gives (record { end = e; count = k }), x)
+-- an end, a count, a mark and x0
+abbrev pub told : End → ℕ → ℕ → ℤ → Answer Ran × ℤ
+told e k mark x = (gives (ran e k mark), x)
 
 -- Under budget 1000 each.
 abbrev pub Tallies : Type 0
 Tallies = map (λ text. with-x0 (run-source text zeros 1000)) texts
-    ≡ ran done 0 (pos 0) ∷ ran done 4 (pos 5) ∷ ran done 27 (pos 3) ∷ ran done 1 (pos 0) ∷ ran done 3 (pos 1)
-    ∷ ran done 1 (pos 0) ∷ ran (fault out-of-range) 3 (pos 0) ∷ ran done 4 (negsuc 0) ∷ ran done 4 (pos 0)
-    ∷ ran spent 1000 (pos 0) ∷ ran done 6 (pos 3) ∷ []
+    ≡ told done 0 0 (pos 0) ∷ told done 4 2 (pos 5) ∷ told done 27 2 (pos 3) ∷ told done 1 0 (pos 0)
+    ∷ told done 3 1 (pos 1) ∷ told done 1 0 (pos 0) ∷ told (fault out-of-range) 3 2 (pos 0)
+    ∷ told done 4 2 (negsuc 0) ∷ told done 4 1 (pos 0) ∷ told spent 1000 0 (pos 0) ∷ told done 6 2 (pos 3) ∷ []
+
+-- x0 := 1 + 2; x1 := 3 in seven runs, under budget 0 to 6: the mark rises with the sum's two values, and stays when the
+-- second assignment needs one (document 02, W2).
+abbrev pub two-assignments : List ℕ
+two-assignments = 0x02 ∷ 0x01 ∷ 0 ∷ 0x12 ∷ 0x13 ∷ 1 ∷ 0x13 ∷ 2 ∷ 0x01 ∷ 1 ∷ 0x13 ∷ 3 ∷ []
+
+abbrev pub Marks : Type 0
+Marks = map (λ budget. run-source two-assignments zeros budget .0) (0 ∷ 1 ∷ 2 ∷ 3 ∷ 4 ∷ 5 ∷ 6 ∷ [])
+    ≡ map gives (ran spent 0 0 ∷ ran spent 1 1 ∷ ran spent 2 2 ∷ ran spent 3 2 ∷ ran spent 4 2 ∷ ran spent 5 2
+    ∷ ran done 6 2 ∷ [])
 
 -- J is "spent at every budget".
 abbrev pub Forever : Type 0
 Forever = (budget : ℕ) (s : Store) → length s ≡ 64
-    → run-source J·text s budget ≡ (gives (record { end = spent; count = budget }), s)
+    → run-source J·text s budget ≡ (gives (ran spent budget 0), s)
 
 -- ---- Where run_source declines: 6, reading, 8
 

@@ -10,7 +10,7 @@ use lib.IntN.{ℤ}
 use lib.ListN.{length}
 use Rattle.base.specs.Acts.{ok, ended, _>>=_, _>>_, give, if_then_else_}
 use Rattle.base.specs.Answers.{gives}
-use Rattle.base.specs.Ends.{Fault, End, fault}
+use Rattle.base.specs.Ends.{Fault, End, fault, ran}
 use Rattle.word.specs.Sums.{SumRule, sum32}
 use Rattle.word.specs.declared.Sum.the-variants.{Fits}
 use Rattle.text.specs.Syntax.{Condition, Command, WHILE_DO_}
@@ -18,7 +18,7 @@ use Rattle.text.specs.Reading.{read-text}
 use Rattle.text.specs.Respelling.{Respelled}
 use Rattle.source.specs.BigStep.{BigStep}
 use Rattle.source.specs.Calls.{run-source}
-use Rattle.source.specs.Rules.{Early, State, Store, state, tick, truth, exec}
+use Rattle.source.specs.Rules.{Early, State, Store, start, Ending, tick, truth, exec}
 
 -- ---- WHILE
 
@@ -35,8 +35,8 @@ Again sum = (b : Condition) (c : Command) (s : State)
 -- being of any size) with a store exactly when the published big-step rules lead to that store."
 abbrev pub PublishedBy : SumRule → Type 0
 PublishedBy sum = (c : Command) (s : Store)
-    → ((n : ℕ) (u : State) → exec sum c (state n s) ≡ ended (Early.out-of-range, u) → ⊥)
-    → (t : Store) → ((n : ℕ) × (n′ : ℕ) × (exec sum c (state n s) ≡ ok tt (state n′ t))) ↔ BigStep c s t
+    → ((n : ℕ) (u : Ending) → exec sum c (start n s) ≡ ended (Early.out-of-range, u) → ⊥)
+    → (t : Store) → ((n : ℕ) × (u : State) × (exec sum c (start n s) ≡ ok tt u) × (u .store ≡ t)) ↔ BigStep c s t
 
 -- By document 01's rule for sums, which all calls name.
 abbrev pub Published : Type 0
@@ -45,10 +45,10 @@ Published = PublishedBy sum32
 -- The same of texts and of the call run_source, which runs by that rule.
 pub record PublishedText (text : List ℕ) (c : Command) (s : Store) : Type 0 where
   pub same :
-      ((budget k : ℕ) (u : Store)
-      → run-source text s budget ≡ (gives (record { end = fault Fault.out-of-range; count = k }), u) → ⊥)
+      ((budget k mark : ℕ) (u : Store)
+      → run-source text s budget ≡ (gives (ran (fault Fault.out-of-range) k mark), u) → ⊥)
       → (t : Store)
-      → ((budget : ℕ) × (k : ℕ) × (run-source text s budget ≡ (gives (record { end = End.done; count = k }), t)))
+      → ((budget : ℕ) × (k : ℕ) × (mark : ℕ) × (run-source text s budget ≡ (gives (ran End.done k mark), t)))
       ↔ BigStep c s t
 
 abbrev pub PublishedTexts : Type 0
@@ -61,7 +61,7 @@ PublishedTexts = (text : List ℕ) (c : Command) → read-text text ≡ gives c 
 -- by the first is the same by the second.
 abbrev pub Agreed : SumRule → SumRule → Type 0
 Agreed first second = ((n : ℕ) (x y z : ℤ) → first n x y ≡ Fits z → second n x y ≡ Fits z)
-    → (c : Command) (s : State) → ((u : State) → exec first c s ≡ ended (Early.out-of-range, u) → ⊥)
+    → (c : Command) (s : State) → ((u : Ending) → exec first c s ≡ ended (Early.out-of-range, u) → ⊥)
     → exec second c s ≡ exec first c s
 
 -- ---- Two spellings of constants

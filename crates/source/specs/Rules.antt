@@ -1,5 +1,5 @@
--- Source rules and ticks (document 01, "Source rules and ticks").
-use Prim.Native.Nat.{ℕ, zero, suc}
+-- Source rules and ticks (document 01, "Source rules and ticks"), with the stack that they would need (document 02, W2).
+use Prim.Native.Nat.{ℕ, zero, suc, _-_, max}
 use mathlib.Core.Bool.{Bool, false, not, Bool·beq}
 use mathlib.Core.List.{List}
 use lib.IntN.{ℤ, pos}
@@ -21,41 +21,68 @@ pub data Early : Type 0 where
 abbrev pub Store : Type 0
 Store = List ℤ
 
--- The state of a run: the ticks left of the budget, and the store
+-- The state of a run: the ticks left of the budget; the height, how many values are on the stack, and the mark, the most
+-- that were; the store
 pub record State : Type 0 where
   pub left : ℕ
+  pub height : ℕ
+  pub mark : ℕ
   pub store : Store
 
-abbrev pub state : ℕ → Store → State
-state n s = record { left = n; store = s }
+abbrev pub state : ℕ → ℕ → ℕ → Store → State
+state n h mark s = record { left = n; height = h; mark = mark; store = s }
 
--- A rule gives a value, or ends the run; "each of these three ends comes with the count and the store as it then is"
+-- A run starts with an empty stack
+abbrev pub start : ℕ → Store → State
+start budget s = state budget 0 0 s
+
+-- What an end comes with: "each of these three ends comes with the count and the store as it then is", and the mark
+pub record Ending : Type 0 where
+  pub left : ℕ
+  pub mark : ℕ
+  pub store : Store
+
+abbrev pub ending : ℕ → ℕ → Store → Ending
+ending n mark s = record { left = n; mark = mark; store = s }
+
+-- A rule gives a value, or ends the run
 abbrev pub Rule : Type 0 → Type 0
-Rule A = Act State (Early × State) A
+Rule A = Act State (Early × Ending) A
 
 abbrev pub Outcomes : Type 0 → Type 0
-Outcomes A = Outcome State (Early × State) A
+Outcomes A = Outcome State (Early × Ending) A
 
-unfoldable pub charge : ℕ → State → Outcomes (Unit {0})
-charge zero s = ended (spent, s)
-charge (suc n) s = ok tt (state n (s .store))
+abbrev pub stop : {A : Type 0} → Early → Rule A
+stop e s = ended (e, ending (s .left) (s .mark) (s .store))
+
+unfoldable pub charge : ℕ → Rule (Unit {0})
+charge zero s = stop spent s
+charge (suc n) s = ok tt (state n (s .height) (s .mark) (s .store))
 
 -- "Each tick is charged just before its act; if the count already equals the budget, the run ends spent there
 -- and the act isn't done"
 unfoldable pub tick : Rule (Unit {0})
 tick s = charge (s .left) s
 
+-- "A tick of a constant or variable adds one value"
+unfoldable pub raise : Rule (Unit {0})
+raise s = ok tt (state (s .left) (suc (s .height)) (max (s .mark) (suc (s .height))) (s .store))
+
+-- "a sum or store takes one off, Less two"
+unfoldable pub lower : ℕ → Rule (Unit {0})
+lower k s = ok tt (state (s .left) (s .height - k) (s .mark) (s .store))
+
 -- A variable's value; a value stored
 unfoldable pub cell : ℕ → Rule ℤ
 cell v s = ok (getD (s .store) v (pos 0)) s
 
 unfoldable pub assign : ℕ → ℤ → Rule (Unit {0})
-assign v z s = ok tt (state (s .left) (set (s .store) v z))
+assign v z s = ok tt (state (s .left) (s .height) (s .mark) (set (s .store) v z))
 
 -- "A sum [out of range] ends the run out of range, that tick counted"
 unfoldable pub total : Sum → Rule ℤ
 total (Fits z) s = ok z s
-total Out s = ended (out-of-range, s)
+total Out s = stop out-of-range s
 
 -- The rule for sums is a parameter, and gets the ticks left after the sum's tick (word/specs/Sums says why)
 module _ (sum : SumRule) where
@@ -64,9 +91,9 @@ module _ (sum : SumRule) where
 
   -- "Constant or variable: one tick. Plus: left, right, then one tick for the sum"
   unfoldable pub value : Expression → Rule ℤ
-  value (Constant w z) = do tick; give z
-  value (Variable v) = do tick; cell v
-  value (Plus a b) = do x ← value a; y ← value b; tick; add x y
+  value (Constant w z) = do tick; raise; give z
+  value (Variable v) = do tick; raise; cell v
+  value (Plus a b) = do x ← value a; y ← value b; tick; lower 1; add x y
 
   -- "A condition is taken under a flag. Bc: one tick if its value equals the flag, else none. Not: its part under the
   -- other flag. And: the left under false; only if it is true, the right under And's own flag. Less: left, right,
@@ -75,11 +102,11 @@ module _ (sum : SumRule) where
   truth (Bc v) flag = if Bool·beq v flag then (do tick; give v) else give v
   truth (Not b) flag = do v ← truth b (not flag); give (not v)
   truth (And b c) flag = do v ← truth b false; if v then truth c flag else give false
-  truth (Less a b) flag = do x ← value a; y ← value b; tick; give (ltZ x y)
+  truth (Less a b) flag = do x ← value a; y ← value b; tick; lower 2; give (ltZ x y)
 
   -- "WHILE: the condition; if true the body, one tick, and again": at most `passes` passes
   unfoldable pub loop : ℕ → Rule Bool → Rule (Unit {0}) → Rule (Unit {0})
-  loop zero test body = λ s. ended (spent, s)
+  loop zero test body = stop spent
   loop (suc passes) test body = do t ← test; if t then (do body; tick; loop passes test body) else give tt
 
   -- "SKIP: none. Assign: the expression, then one tick to store. Sequence: one after the other. IF: the condition, the
@@ -87,7 +114,7 @@ module _ (sum : SumRule) where
   -- a tick at least, so one more pass than there are ticks left is enough (Claims: Again)
   unfoldable pub exec : Command → Rule (Unit {0})
   exec SKIP = give tt
-  exec (v := a) = do z ← value a; tick; assign v z
+  exec (v := a) = do z ← value a; tick; lower 1; assign v z
   exec (c ⨾ d) = do exec c; exec d
   exec (IF b THEN c ELSE d) = do t ← truth b false; if t then (do exec c; tick) else exec d
   exec (WHILE b DO c) = λ s. loop (suc (s .left)) (truth b false) (exec c) s
@@ -101,9 +128,9 @@ end-of out-of-range = fault Fault.out-of-range
 
 -- "Else the end is done"
 unfoldable pub result-of : Outcomes (Unit {0}) → Result Store
-result-of (ok a s) = result End.done (s .left) (s .store)
-result-of (ended (e, s)) = result (end-of e) (s .left) (s .store)
+result-of (ok a s) = result End.done (s .left) (s .mark) (s .store)
+result-of (ended (e, s)) = result (end-of e) (s .left) (s .mark) (s .store)
 
 -- A command run from a store under a budget
 abbrev pub run-rules : SumRule → Command → ℕ → Store → Result Store
-run-rules sum c budget s = result-of (exec sum c (state budget s))
+run-rules sum c budget s = result-of (exec sum c (start budget s))

@@ -1,7 +1,7 @@
 -- Commands, at their places: what each part came to says what the whole comes to. Each law is Steps' law for a part of
 -- two, with the construct's own rule for what is done after the first part.
 use mathlib.Core.Path.{_≡_, refl, sym, ap, _∙_}
-use Prim.Native.Nat.{ℕ, _-_}
+use Prim.Native.Nat.{ℕ}
 use mathlib.Core.Bool.{Bool, true, false}
 use lib.IntN.{ℤ}
 use Rattle.base.specs.Acts.{Outcome, ok, ended, then′, _>>=_, _>>_, give, if_then_else_}
@@ -10,12 +10,13 @@ use Rattle.text.specs.Syntax.{Expression, Condition, Command, SKIP, _:=_, _⨾_
 use Rattle.base.specs.Answers.{Refusal}
 use Rattle.text.specs.Reading.{Reader}
 use Rattle.text.proofs.Opened.{One, Two, Three}
-use Rattle.source.specs.Rules.{Early, spent, State, Store, state, Rule, tick, assign, exec}
-use Rattle.source.proofs.Passes.{while-unfold}
+use Rattle.source.specs.Rules.{Early, spent, State, Ending, Rule, tick, exec}
+use Rattle.source.proofs.Passes as Passes
 use Rattle.source_values.specs.Placed.{Read, _upto_, placed, reaching}
-use Rattle.source_values.proofs.Steps.{tick-none, tick-one, placed-is, gave, stopped, begin-ended, begin-ok}
+use Rattle.source_values.proofs.Steps.{left-so, one-on, tick-none, tick-one, placed-is, gave, stopped, begin-ended, begin-ok}
 use Rattle.source_values.proofs.Steps.{second-read, then-ended, then-ok}
 use Rattle.source_values.proofs.Compound.{valuing, under}
+use Rattle.source_commands.specs.Code.{storing}
 
 abbrev Reading : Type 0 → Type 0
 Reading A = Outcome ℕ Refusal A
@@ -31,9 +32,6 @@ skip-is s e = placed-is doing s e
 
 -- ---- Assign: the expression, then one tick to store
 
-abbrev pub storing : ℕ → ℤ → Rule (Unit {0})
-storing v z = do tick; assign v z
-
 module _ (v : ℕ) {x : Reading Expression} {c : Command} {n : ℕ} {whole : Reading Command} (w : whole ≡ ok c n)
     (t : One x (λ a. v := a) c n) (s : State) where
   assign-is : placed doing whole s ≡ placed (λ a. valuing a >>= storing v) x s
@@ -42,7 +40,7 @@ module _ (v : ℕ) {x : Reading Expression} {c : Command} {n : ℕ} {whole : Rea
       placed-is doing s w ∙ ap (λ c. reaching n (doing c s)) (t .is)
       ∙ sym (placed-is (λ a. valuing a >>= storing v) s (t .read))
 
-  pub assign-ended : {e : Early × State} → placed valuing x s ≡ ended e → placed doing whole s ≡ ended e
+  pub assign-ended : {e : Early × Ending} → placed valuing x s ≡ ended e → placed doing whole s ≡ ended e
   assign-ended p = assign-is ∙ then-ended valuing (storing v) x s p
 
   pub assign-ok : {z : ℤ} {m : ℕ} {u : State} → placed valuing x s ≡ ok (z upto m) u
@@ -60,7 +58,7 @@ module _ {x : Reading Command} {y : Reader Command} {c : Command} {n : ℕ} {who
   unfolding exec
   sequence-does s = refl
 
-  pub sequence-ended : {e : Early × State} → placed doing x s ≡ ended e → placed doing whole s ≡ ended e
+  pub sequence-ended : {e : Early × Ending} → placed doing x s ≡ ended e → placed doing whole s ≡ ended e
   sequence-ended p = begin-ended doing doing w t second sequence-does s p
 
   module _ {m : ℕ} {u : State} (p : placed doing x s ≡ ok (tt upto m) u) where
@@ -82,7 +80,7 @@ module _ {x : Reading Condition} {y : Reader Command} {c : Command} {n : ℕ} {w
   unfolding exec
   choice-is = placed-is doing s w ∙ ap (λ c. reaching n (doing c s)) (t .others .is)
 
-  pub choice-ended : {e : Early × State} → placed (under false) x s ≡ ended e → placed doing whole s ≡ ended e
+  pub choice-ended : {e : Early × Ending} → placed (under false) x s ≡ ended e → placed doing whole s ≡ ended e
   unfolding then′
   choice-ended p = choice-is ∙ ap (λ o. reaching n (then′ o branch)) (stopped (under false) s (t .first) p)
 
@@ -96,7 +94,7 @@ module _ {x : Reading Condition} {y : Reader Command} {c : Command} {n : ℕ} {w
         choice-is ∙ ap (λ o. reaching n (then′ o branch)) (gave (under false) s (t .first) p .0)
         ∙ ap (λ v. reaching n (branch v u)) e
 
-    pub first-stops : v ≡ true → {e : Early × State} → placed doing (y m) u ≡ ended e → placed doing whole s ≡ ended e
+    pub first-stops : v ≡ true → {e : Early × Ending} → placed doing (y m) u ≡ ended e → placed doing whole s ≡ ended e
     unfolding then′
     first-stops h q = branch-is true h ∙ ap (λ o. reaching n (then′ o (λ _. tick))) (stopped doing u first-at q)
 
@@ -131,9 +129,9 @@ module _ {x : Reading Condition} {y : Reader Command} {c : Command} {n : ℕ} {w
   while-is : placed doing whole s ≡ reaching n (then′ (under false (t .one) s) pass)
   while-is =
       placed-is doing s w
-      ∙ ap (reaching n) (ap (λ c. doing c s) (t .is) ∙ while-unfold sum32 (t .one) (t .two) (s .left) (s .store))
+      ∙ ap (reaching n) (ap (λ c. doing c s) (t .is) ∙ Passes.again sum32 (t .one) (t .two) s)
 
-  pub while-ended : {e : Early × State} → placed (under false) x s ≡ ended e → placed doing whole s ≡ ended e
+  pub while-ended : {e : Early × Ending} → placed (under false) x s ≡ ended e → placed doing whole s ≡ ended e
   unfolding then′
   while-ended p = while-is ∙ ap (λ o. reaching n (then′ o pass)) (stopped (under false) s (t .first) p)
 
@@ -151,23 +149,21 @@ module _ {x : Reading Condition} {y : Reader Command} {c : Command} {n : ℕ} {w
     unfolding then′ give
     while-done h = pass-is false h
 
-    pub body-stops : v ≡ true → {e : Early × State} → placed doing (y m) u ≡ ended e → placed doing whole s ≡ ended e
+    pub body-stops : v ≡ true → {e : Early × Ending} → placed doing (y m) u ≡ ended e → placed doing whole s ≡ ended e
     unfolding then′
     body-stops h q = pass-is true h ∙ ap (λ o. reaching n (then′ o again)) (stopped doing u body-at q)
 
-    module _ (h : v ≡ true) {j rest : ℕ} {store : Store}
-        (q : placed doing (y m) u ≡ ok (tt upto j) (state rest store)) where
-      turn-is : placed doing whole s ≡ reaching n (again tt (state rest store))
+    module _ (h : v ≡ true) {j : ℕ} {r : State} (q : placed doing (y m) u ≡ ok (tt upto j) r) where
+      turn-is : placed doing whole s ≡ reaching n (again tt r)
       unfolding then′
       turn-is = pass-is true h ∙ ap (λ o. reaching n (then′ o again)) (gave doing u body-at q .0)
 
-      pub turn-spent : rest ≡ 0 → placed doing whole s ≡ ended (spent, state 0 store)
+      pub turn-spent : r .left ≡ 0 → placed doing whole s ≡ ended (spent, left-so r)
       unfolding then′
-      turn-spent z = turn-is ∙ ap (λ o. reaching n (then′ o (λ _. once-more))) (tick-none rest store z)
+      turn-spent z = turn-is ∙ ap (λ o. reaching n (then′ o (λ _. once-more))) (tick-none r z)
 
-      pub turn-again : (rest ≡ 0 → ⊥) → placed doing whole s ≡ placed doing whole (state (rest - 1) store)
+      pub turn-again : (r .left ≡ 0 → ⊥) → placed doing whole s ≡ placed doing whole (one-on r)
       unfolding then′
       turn-again z =
-          let s′ = state (rest - 1) store in
-          turn-is ∙ ap (λ o. reaching n (then′ o (λ _. once-more))) (tick-one rest store z)
-          ∙ sym (placed-is doing s′ w ∙ ap (λ c. reaching n (doing c s′)) (t .is))
+          turn-is ∙ ap (λ o. reaching n (then′ o (λ _. once-more))) (tick-one r z)
+          ∙ sym (placed-is doing (one-on r) w ∙ ap (λ c. reaching n (doing c (one-on r))) (t .is))

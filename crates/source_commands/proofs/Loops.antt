@@ -13,7 +13,7 @@ use Rattle.text.specs.Syntax.{Condition, Command, _⨾_, WHILE_DO_}
 use Rattle.base.specs.Answers.{Refusal}
 use Rattle.text.specs.Reading.{Reader, command}
 use Rattle.text.proofs.Opened.{Two}
-use Rattle.source.specs.Rules.{State, Store, state, Outcomes}
+use Rattle.source.specs.Rules.{State, Outcomes}
 use Rattle.source.proofs.Ticks.{Low, low-truth, low-exec}
 use Rattle.source_values.specs.Placed.{Read, _upto_, placed}
 use Rattle.source_values.proofs.Steps.{gave}
@@ -30,38 +30,34 @@ not-false false e = sym e
 
 -- ---- The loop of `execute`
 
-pub record Going (text : List ℕ) (start deepest budget : ℕ) (store₀ : Store) (at nest left : ℕ) (store : Store)
-    : Type 0 where
+pub record Going (text : List ℕ) (start deepest : ℕ) (s₀ : State) (at nest : ℕ) (s : State) : Type 0 where
   pub read : Read (command text nest at)
   pub nested : nest ≤ deepest
-  pub long : length store ≡ length store₀
-  pub same : placed doing (command text nest at) (state left store)
-      ≡ placed doing (command text deepest start) (state budget store₀)
+  pub long : length (s .store) ≡ 64
+  pub same : placed doing (command text nest at) s ≡ placed doing (command text deepest start) s₀
 
-pub begins : (text : List ℕ) (start deepest budget : ℕ) (store : Store) → Read (command text deepest start)
-    → Going text start deepest budget store start deepest budget store
-begins text start deepest budget store r =
-    record { read = r; nested = le-refl deepest; long = refl; same = refl }
+pub begins : (text : List ℕ) (start deepest : ℕ) (s : State) → Read (command text deepest start)
+    → length (s .store) ≡ 64 → Going text start deepest s start deepest s
+begins text start deepest s r l = record { read = r; nested = le-refl deepest; long = l; same = refl }
 
 -- after the first command of a sequence
-pub second-next : {text : List ℕ} {start deepest budget at nest left next rest : ℕ} {store₀ store store′ : Store}
-    (g : Going text start deepest budget store₀ at nest left store)
+pub second-next : {text : List ℕ} {start deepest at nest next : ℕ} {s₀ s s′ : State}
+    (g : Going text start deepest s₀ at nest s)
     → (t : Two (command text (nest - 1) (at + 1)) (command text (nest - 1)) _⨾_ (g .read .part) (g .read .end))
-    → placed doing (command text (nest - 1) (at + 1)) (state left store) ≡ ok (tt upto next) (state rest store′)
-    → length store′ ≡ length store → Going text start deepest budget store₀ next (nest - 1) rest store′
+    → placed doing (command text (nest - 1) (at + 1)) s ≡ ok (tt upto next) s′ → length (s′ .store) ≡ 64
+    → Going text start deepest s₀ next (nest - 1) s′
 second-next g t p l = record {
   read = sequence-read (g .read .is) t _ p;
   nested = let n = g .nested in omega arith;
-  long = l ∙ g .long;
+  long = l;
   same = sym (sequence-ok (g .read .is) t _ p) ∙ g .same;
 }
 
 -- ---- The loop of `repeat`
 
-pub record Turning (text : List ℕ) (at nest budget : ℕ) (store₀ : Store) (left : ℕ) (store : Store) : Type 0 where
-  pub long : length store ≡ length store₀
-  pub same : placed doing (command text nest at) (state left store)
-      ≡ placed doing (command text nest at) (state budget store₀)
+pub record Turning (text : List ℕ) (at nest : ℕ) (s₀ s : State) : Type 0 where
+  pub long : length (s .store) ≡ 64
+  pub same : placed doing (command text nest at) s ≡ placed doing (command text nest at) s₀
 
 low-left : {A : Type 0} {a : A} {n : ℕ} {s : State} {o : Outcomes A} → o ≡ ok a s → Low n o → s .left ≤ n
 unfolding Low

@@ -4,12 +4,14 @@ use mathlib.Core.Path.{_≡_, refl, sym, ap, subst, _∙_}
 use Prim.Native.Nat.{ℕ, _≤_}
 use native.Mathlib.Nat.{le-refl}
 use native.Mathlib.Omega.{arith}
-use mathlib.Core.List.{List}
+use mathlib.Core.List.{List, _++_}
 use lib.Dec.{eqb}
-use lib.ListN.{length}
+use lib.ListN.{length, drop, length-append, length-drop}
 use borrow.Author.Tests.{eq-eqb, eqb-true, ne-eqb}
+use Rattle.base.specs.Acts.{ok}
 use Rattle.base.specs.Answers.{Answer, gives, refused, and-then, settle}
-use Rattle.base.specs.Ends.{report}
+use Rattle.base.specs.Ends.{Ran, report}
+use Rattle.base.proofs.Answers.{gives-one}
 use Rattle.base.proofs.Settled.{needed, unless-passed}
 use Rattle.word.specs.Sums.{sum32}
 use Rattle.text.specs.Syntax.{Command}
@@ -18,9 +20,11 @@ use Rattle.text.specs.Sizes.{sizes}
 use Rattle.text.specs.declared.Sizes.{Sizes}
 use Rattle.text.specs.Calls.{read-call}
 use Rattle.text.proofs.Opened.{taken, read-gives, read-refuses}
-use Rattle.source.specs.Rules.{Store, state, Outcomes, result-of}
+use Rattle.text.proofs.Longer.{command-longer}
+use Rattle.text_ends.specs.Ends.{PartEnds}
+use Rattle.text_ends.proofs.Longer.{ends-longer}
+use Rattle.source.specs.Rules.{Store, start, Outcomes, result-of}
 use Rattle.source.specs.Calls.{source-tests, run-source}
-use Rattle.source.proofs.Calls.{source-runs}
 use Rattle.source.proofs.Ticks.{Low, low-exec}
 use Rattle.source_values.specs.Placed.{Read, placed}
 use Rattle.source_values.proofs.Steps.{was-read, gave, stopped}
@@ -28,7 +32,7 @@ use Rattle.source_commands.specs.Code.{went}
 use Rattle.source_commands.specs.declared.Progress.{Progress}
 use Rattle.source_commands.specs.declared.Progress.the-variants.{On, Ended}
 use Rattle.source_commands.proofs.Commands.{doing}
-use Rattle.source_run.specs.Code.{ticks-left, ran}
+use Rattle.source_run.specs.Code.{told, runs, Runs, Laid}
 
 -- ---- The tests
 
@@ -82,28 +86,57 @@ module _ (text : List ℕ) (store : Store) where
 
 -- ---- The run
 
-pub whole-read : {text : List ℕ} {store : Store} → Passed text store → Read (command text 64 0)
-whole-read {text} p = was-read (taken text (p .is) .part)
+-- Where a text's command was read at its start, the ticks left and what is told of it, from what it came to
+pub record Tells (c : Command) (budget : ℕ) (store : Store) (r : Progress) (left μ : ℕ) (m : Store) : Type 0 where
+  pub few : left ≤ budget
+  pub same : (gives (told r budget left μ), m) ≡ runs c budget store
 
--- from what the command came to, the ticks left, and the call's answer and store
-pub record Runs (text : List ℕ) (store : Store) (budget : ℕ) (r : Progress) (left-store : Store) : Type 0 where
-  pub few : ticks-left r ≤ budget
-  pub same : (gives (ran r budget), left-store) ≡ run-source text store budget
+module _ (text : List ℕ) {c : Command} {n : ℕ} (part : command text 64 0 ≡ ok c n) (budget : ℕ) (store : Store) where
+  by-rules : (o : Outcomes (Unit {0})) → doing c (start budget store) ≡ o
+      → (gives (report budget (result-of o)), result-of o .leaves) ≡ runs c budget store
+  by-rules o d = sym (ap (λ o. (gives (report budget (result-of o)), result-of o .leaves)) d)
 
-module _ {text : List ℕ} {store : Store} (p : Passed text store) (budget : ℕ) where
-  runs : (o : Outcomes (Unit {0})) → doing (p .text-command) (state budget store) ≡ o
-      → (gives (report budget (result-of o)), result-of o .leaves) ≡ run-source text store budget
-  runs o d =
-      sym (source-runs text (p .text-command) store budget (p .is) (p .long)
-      ∙ ap (λ o. (gives (report budget (result-of o)), result-of o .leaves)) d)
+  low : (o : Outcomes (Unit {0})) → doing c (start budget store) ≡ o → Low budget o
+  low o d = subst (Low budget) d (low-exec sum32 c budget (start budget store) (le-refl budget))
 
-  low : (o : Outcomes (Unit {0})) → doing (p .text-command) (state budget store) ≡ o → Low budget o
-  low o d = subst (Low budget) d (low-exec sum32 (p .text-command) budget (state budget store) (le-refl budget))
-
-  pub run : (r : Progress) (m : Store) → went r m ≡ placed doing (command text 64 0) (state budget store)
-      → Runs text store budget r m
+  pub tells : (r : Progress) (left μ : ℕ) (m : Store)
+      → went r left μ m ≡ placed doing (command text 64 0) (start budget store) → Tells c budget store r left μ m
   unfolding Low result-of
-  run (On next left) m e =
-      let d = gave doing _ (taken text (p .is) .part) (sym e) .0 in record { few = low _ d; same = runs _ d }
-  run (Ended k left) m e =
-      let d = stopped doing _ (taken text (p .is) .part) (sym e) in record { few = low _ d; same = runs _ d }
+  tells (On next) left μ m e =
+      let d = gave doing _ part (sym e) .0 in record { few = low _ d; same = by-rules _ d }
+  tells (Ended k) left μ m e =
+      let d = stopped doing _ part (sym e) in record { few = low _ d; same = by-rules _ d }
+
+-- ---- A text in its buffer
+
+module _ {text buffer : List ℕ} (l : Laid text buffer) where
+  -- its command is read there,
+  pub laid-part : (n : ℕ) × (command buffer 64 0 ≡ ok (l .text-command) n)
+  laid-part =
+      let t = taken text (l .is) in (t .end, rw (l .holds) (command-longer text (l .behind) 64 0 (t .part)))
+
+  pub laid-read : Read (command buffer 64 0)
+  laid-read = was-read (laid-part .1)
+
+  -- and part ends that are right of the text are right there.
+  pub laid-ends : {ends : List ℕ} → PartEnds text ends → PartEnds buffer ends
+  laid-ends p = rw (l .holds) (ends-longer text (l .behind) p)
+
+-- An accepted text over the start of a buffer of 4,096 bytes
+pub laid : (text old : List ℕ) {buffer : List ℕ} {c : Command} → read-text text ≡ gives c → length old ≡ 4096
+    → buffer ≡ text ++ drop (length text) old → Laid text buffer
+laid text old {c = c} is long holds = record {
+  text-command = c;
+  is = is;
+  behind = drop (length text) old;
+  holds = holds;
+  long =
+      ap length holds ∙ length-append text _
+      ∙ (let behind = length-drop (length text) old in omega (arith, taken text is .short));
+}
+
+-- What is run of a buffer is run of its text.
+pub runs-laid : {text buffer : List ℕ} (budget : ℕ) (store : Store) {x : Answer Ran × Store} → Laid text buffer
+    → Runs buffer budget store x → (c : Command) → read-text text ≡ gives c → x ≡ runs c budget store
+runs-laid budget store l h c is =
+    h (l .text-command) (laid-part l .0) (laid-part l .1) ∙ ap (λ c. runs c budget store) (gives-one _ _ (sym (l .is) ∙ is))

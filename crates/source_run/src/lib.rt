@@ -1,4 +1,5 @@
-// The source executor's call: a profile text is read, and then run as it stands, by the source rules.
+// The source executor's call: a profile text is read, and then run as it stands, by the source rules. The text and the
+// store are copied into arrays for the run, which is then faster (source_values says why).
 ghost use mathlib.Core.Path.{_≡_};
 ghost use Prim.Native.Nat.{_≤_};
 ghost use lib.Dec.{leb};
@@ -7,16 +8,20 @@ ghost use Rattle.base.specs.Acts.{if_then_else_};
 ghost use Rattle.base.specs.Answers.{gives, and-then};
 ghost use Rattle.base.specs.Code.{end-of, run-answer};
 ghost use Rattle.text.specs.Syntax.{Command};
+ghost use Rattle.text.specs.Reading.{command, read-text};
 ghost use Rattle.text.specs.Sizes.{sizes};
 ghost use Rattle.text.specs.Code.{sizes-answer};
 ghost use Rattle.text_ends.specs.Ends.{PartEnds, first};
 ghost use Rattle.source.specs.Rules as Rules;
 ghost use Rattle.source.specs.Calls.{source-tests, run-source};
+ghost use Rattle.source_values.specs.Placed.{Read};
 ghost use Rattle.source_values.specs.Code.{early};
-ghost use Rattle.source_run.specs.Code.{ticks-left, ran};
+ghost use Rattle.source_run.specs.Code.{told, runs, Runs, Laid};
 use base::End;
 use base::Run;
 use base::VARIABLES;
+use base::copy_bytes;
+use base::copy_cells;
 use source_commands::Progress;
 use source_commands::execute;
 use source_values::Early;
@@ -50,19 +55,21 @@ fn end_of(end: Early) -> End
     }
 }
 
-// The end and the count of a run, from what its command came to.
-fn report(progress: Progress, budget: u32) -> Run
-    requires { ⌜ ticks-left progress ≤ budget ⌝ }
-    ensures { λ r. ⌜ run-answer r ≡ gives (ran progress budget) ⌝ }
+// The end, the count and the mark of a run, from what its command came to.
+fn report(progress: Progress, budget: u32, left: u32, mark: usize) -> Run
+    requires { ⌜ left ≤ budget ⌝ }
+    ensures { λ r. ⌜ run-answer r ≡ gives (told progress budget left mark) ⌝ }
 {
     match progress {
-        Progress::On { left, .. } => Run::Ended {
+        Progress::On(_) => Run::Ended {
             end: End::Done,
             count: budget - left,
+            mark,
         },
-        Progress::Ended { end, left } => Run::Ended {
+        Progress::Ended(end) => Run::Ended {
             end: end_of(end),
             count: budget - left,
+            mark,
         },
     }
 }
@@ -82,38 +89,101 @@ fn noted_from(text: &[u8], budget: u32) -> usize
     first_loop(text)
 }
 
-// Runs a text that passed the tests, with the ends of its parts from a position on in a cache.
-fn run_with(text: &[u8], store: &mut [i32], budget: u32, from: usize, ends: &mut [u16]) -> Run
-    requires { ⌜ ((c : Command) × (source-tests (now text) (now store) ≡ gives c)) ⌝ }
+// Runs the command at the start of a text, on a store, with the ends of its parts in a cache.
+fn run_command(
+    text: &[u8; text::LONGEST],
+    store: &mut [i32; VARIABLES],
+    budget: u32,
+    ends: &[u16],
+) -> Run
+    requires { ⌜ length (now text) ≡ 4096 ⌝ }
+    requires { ⌜ Read (command (now text) 64 0) ⌝ }
+    requires { ⌜ length (now store) ≡ 64 ⌝ }
+    requires { ⌜ PartEnds (now text) (now ends) ⌝ }
+    ensures { λ r. ⌜ Runs (now (text .entry)) budget (now (store .entry)) (run-answer r, now (store .exit)) ⌝ }
+    ensures { λ r. ⌜ length (now (store .exit)) ≡ 64 ⌝ }
+{
+    let mut left = budget;
+    let mut mark = 0;
+    let progress = execute(text, 0, text::DEEPEST, store, &mut left, &mut mark, ends);
+    report(progress, budget, left, mark)
+}
+
+// The same of a text in a buffer, with the ends of its parts from a position on noted first.
+fn run_noted(
+    text: &[u8],
+    buffer: &[u8; text::LONGEST],
+    store: &mut [i32; VARIABLES],
+    budget: u32,
+    from: usize,
+    ends: &mut [u16],
+) -> Run
+    requires { ⌜ Laid (now text) (now buffer) ⌝ }
+    requires { ⌜ length (now store) ≡ 64 ⌝ }
     requires { ⌜ PartEnds (now text) (now ends) ⌝ }
     requires { ⌜ getD (now ends) 0 0 ≡ 0 ⌝ }
-    ensures { λ r. ⌜ (run-answer r, now (store .exit))
-        ≡ run-source (now (text .entry)) (now (store .entry)) budget ⌝ }
+    ensures { λ r. ⌜ Runs (now (buffer .entry)) budget (now (store .entry)) (run-answer r, now (store .exit)) ⌝ }
+    ensures { λ r. ⌜ length (now (store .exit)) ≡ 64 ⌝ }
 {
     note_ends(text, from, ends);
-    report(execute(text, 0, text::DEEPEST, store, budget, ends), budget)
+    run_command(buffer, store, budget, ends)
 }
 
-fn run_short(text: &[u8], store: &mut [i32], budget: u32, from: usize) -> Run
-    requires { ⌜ ((c : Command) × (source-tests (now text) (now store) ≡ gives c)) ⌝ }
-    ensures { λ r. ⌜ (run-answer r, now (store .exit))
-        ≡ run-source (now (text .entry)) (now (store .entry)) budget ⌝ }
+fn run_short(
+    text: &[u8],
+    buffer: &[u8; text::LONGEST],
+    store: &mut [i32; VARIABLES],
+    budget: u32,
+    from: usize,
+) -> Run
+    requires { ⌜ Laid (now text) (now buffer) ⌝ }
+    requires { ⌜ length (now store) ≡ 64 ⌝ }
+    ensures { λ r. ⌜ Runs (now (buffer .entry)) budget (now (store .entry)) (run-answer r, now (store .exit)) ⌝ }
+    ensures { λ r. ⌜ length (now (store .exit)) ≡ 64 ⌝ }
 {
     let mut ends = [0u16; SHORT_TEXT];
-    run_with(text, store, budget, from, &mut ends)
+    run_noted(text, buffer, store, budget, from, &mut ends)
 }
 
-fn run_long(text: &[u8], store: &mut [i32], budget: u32, from: usize) -> Run
-    requires { ⌜ ((c : Command) × (source-tests (now text) (now store) ≡ gives c)) ⌝ }
-    ensures { λ r. ⌜ (run-answer r, now (store .exit))
-        ≡ run-source (now (text .entry)) (now (store .entry)) budget ⌝ }
+fn run_long(
+    text: &[u8],
+    buffer: &[u8; text::LONGEST],
+    store: &mut [i32; VARIABLES],
+    budget: u32,
+    from: usize,
+) -> Run
+    requires { ⌜ Laid (now text) (now buffer) ⌝ }
+    requires { ⌜ length (now store) ≡ 64 ⌝ }
+    ensures { λ r. ⌜ Runs (now (buffer .entry)) budget (now (store .entry)) (run-answer r, now (store .exit)) ⌝ }
+    ensures { λ r. ⌜ length (now (store .exit)) ≡ 64 ⌝ }
 {
     let mut ends = [0u16; text::LONGEST];
-    run_with(text, store, budget, from, &mut ends)
+    run_noted(text, buffer, store, budget, from, &mut ends)
 }
 
-// Runs a text on a store under a budget: the end and the count, and the store as it is left. It refuses 6, 1 to 5,
-// then 8, and the store then stays as it is. Before the first loop no part is passed over twice.
+// Runs a text that passed the tests, on a store of its own. Before the first loop no part is passed over twice.
+fn run_text(text: &[u8], store: &mut [i32; VARIABLES], budget: u32) -> Run
+    requires { ⌜ ((c : Command) × (read-text (now text) ≡ gives c)) ⌝ }
+    requires { ⌜ length (now store) ≡ 64 ⌝ }
+    ensures { λ r. ⌜ ((c : Command) → read-text (now (text .entry)) ≡ gives c
+        → (run-answer r, now (store .exit)) ≡ runs c budget (now (store .entry))) ⌝ }
+    ensures { λ r. ⌜ length (now (store .exit)) ≡ 64 ⌝ }
+{
+    let mut buffer = [0u8; text::LONGEST];
+    copy_bytes(text, &mut buffer);
+    let from = noted_from(text, budget);
+    if from == text.len() {
+        let nothing = [0u16; 1];
+        return run_command(&buffer, store, budget, &nothing);
+    }
+    if text.len() <= SHORT_TEXT {
+        return run_short(text, &buffer, store, budget, from);
+    }
+    run_long(text, &buffer, store, budget, from)
+}
+
+// Runs a text on a store under a budget: the end, the count and the mark, and the store as it is left. It refuses 6, 1 to
+// 5, then 8, and the store then stays as it is.
 pub fn run_source(text: &[u8], store: &mut [i32], budget: u32) -> Run
     ensures { λ r. ⌜ (run-answer r, now (store .exit))
         ≡ run-source (now (text .entry)) (now (store .entry)) budget ⌝ }
@@ -121,18 +191,11 @@ pub fn run_source(text: &[u8], store: &mut [i32], budget: u32) -> Run
     match test(text, store) {
         Reading::Refused(refusal) => Run::Refused(refusal),
         Reading::Accepted(_) => {
-            let from = noted_from(text, budget);
-            if from == text.len() {
-                let nothing = [0u16; 1];
-                return report(
-                    execute(text, 0, text::DEEPEST, store, budget, &nothing),
-                    budget,
-                );
-            }
-            if text.len() <= SHORT_TEXT {
-                return run_short(text, store, budget, from);
-            }
-            run_long(text, store, budget, from)
+            let mut cells = [0; VARIABLES];
+            copy_cells(store, &mut cells);
+            let run = run_text(text, &mut cells, budget);
+            copy_cells(&cells, store);
+            run
         }
     }
 }

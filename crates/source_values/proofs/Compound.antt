@@ -4,15 +4,15 @@ use mathlib.Core.Path.{_≡_, refl, sym, ap, _∙_}
 use Prim.Native.Nat.{ℕ}
 use mathlib.Core.Bool.{Bool, true, false, not}
 use lib.IntN.{ℤ}
-use lib.Signed.{ltZ}
-use Rattle.base.specs.Acts.{Outcome, ok, ended, then′, _>>=_, _>>_, give, if_then_else_}
+use Rattle.base.specs.Acts.{Outcome, ok, ended, then′, _>>=_, give, if_then_else_}
 use Rattle.word.specs.Sums.{sum32}
 use Rattle.text.specs.Syntax.{Expression, Plus, Condition, Not, And, Less}
 use Rattle.base.specs.Answers.{Refusal}
 use Rattle.text.specs.Reading.{Reader}
 use Rattle.text.proofs.Opened.{One, Two}
-use Rattle.source.specs.Rules.{Early, State, Rule, Outcomes, tick, add, value, truth}
+use Rattle.source.specs.Rules.{Early, State, Ending, Rule, Outcomes, value, truth}
 use Rattle.source_values.specs.Placed.{Read, _upto_, placed, reaching, inverse}
+use Rattle.source_values.specs.Code.{summing, comparing}
 use Rattle.source_values.proofs.Steps.{placed-is, passed, begin-ended, begin-ok, second-at}
 use Rattle.source_values.proofs.Steps.{second-read, then-ended, then-ok}
 
@@ -34,7 +34,7 @@ module _ {C Z : Type 0} (k : C → Rule Z) {h : Expression → Expression → C}
   abbrev right : ℤ → Expression → Rule Z
   right v b = valuing b >>= last v
 
-  pub first-ended : {e : Early × State} → placed valuing x s ≡ ended e → placed k whole s ≡ ended e
+  pub first-ended : {e : Early × Ending} → placed valuing x s ≡ ended e → placed k whole s ≡ ended e
   first-ended p = begin-ended valuing k w t right (does (t .one) (t .two)) s p
 
   module _ {v : ℤ} {m : ℕ} {u : State} (p : placed valuing x s ≡ ok (v upto m) u) where
@@ -44,23 +44,17 @@ module _ {C Z : Type 0} (k : C → Rule Z) {h : Expression → Expression → C}
     right-is : placed k whole s ≡ placed (right v) (y m) u
     right-is = begin-ok valuing k w t right (does (t .one) (t .two)) s p
 
-    pub second-ended : {e : Early × State} → placed valuing (y m) u ≡ ended e → placed k whole s ≡ ended e
+    pub second-ended : {e : Early × Ending} → placed valuing (y m) u ≡ ended e → placed k whole s ≡ ended e
     second-ended q = right-is ∙ then-ended valuing (last v) (y m) u q
 
     pub both-ok : {z : ℤ} {j : ℕ} {r : State} → placed valuing (y m) u ≡ ok (z upto j) r
         → placed k whole s ≡ reaching j (last v z r)
     both-ok q = right-is ∙ then-ok valuing (last v) (y m) u q
 
-abbrev pub summing : ℤ → ℤ → Rule ℤ
-summing x y = do tick; add sum32 x y
-
 pub plus-does : (a b : Expression) (s : State)
     → value sum32 (Plus a b) s ≡ (valuing a >>= λ x. valuing b >>= summing x) s
 unfolding value
 plus-does a b s = refl
-
-abbrev pub comparing : ℤ → ℤ → Rule Bool
-comparing x y = do tick; give (ltZ x y)
 
 pub less-does : (flag : Bool) (a b : Expression) (s : State)
     → under flag (Less a b) s ≡ (valuing a >>= λ x. valuing b >>= comparing x) s
@@ -94,7 +88,7 @@ module _ (flag : Bool) {x : Reading Condition} {y : Reader Condition} {b : Condi
   unfolding truth
   and-does s = refl
 
-  pub and-ended : {e : Early × State} → placed (under false) x s ≡ ended e → placed (under flag) whole s ≡ ended e
+  pub and-ended : {e : Early × Ending} → placed (under false) x s ≡ ended e → placed (under flag) whole s ≡ ended e
   and-ended p = begin-ended (under false) (under flag) w t other-side and-does s p
 
   module _ {v : Bool} {m : ℕ} {u : State} (p : placed (under false) x s ≡ ok (v upto m) u) where

@@ -1,7 +1,7 @@
 -- Laws of rules at places: a tick by the ticks left; what a call gave; a part's rule from what its place came to; a
 -- part made of two ends where the first ends it, and goes on with the second where the first gave a value.
-use mathlib.Core.Path.{_≡_, refl, sym, ap, subst, _∙_}
-use Prim.Native.Nat.{ℕ, zero, suc, _-_}
+use mathlib.Core.Path.{_≡_, refl, sym, ap, ap₂, subst, _∙_}
+use Prim.Native.Nat.{ℕ, zero, suc, _+_, _-_, _≤_, max}
 use native.Mathlib.Omega.{arith}
 use mathlib.Core.Bool.{Bool}
 use lib.IntN.{ℤ}
@@ -9,41 +9,86 @@ use Rattle.base.specs.Acts.{Outcome, ok, ended, then′, give}
 use Rattle.base.specs.Answers.{Refusal}
 use Rattle.text.specs.Reading.{Reader}
 use Rattle.text.proofs.Opened.{Two}
-use Rattle.source.specs.Rules.{Early, spent, Store, State, state, Rule, Outcomes, charge, tick}
+use Rattle.source.specs.Rules.{Early, spent, Store, State, state, Ending, ending, Rule, Outcomes, charge, tick}
 use Rattle.source_values.specs.Placed.{Read, Reached, _upto_, placed, reaching}
-use Rattle.source_values.specs.Code.{valued, tested}
+use Rattle.source_values.specs.Code.{valued, Within, tested}
 use Rattle.source_values.specs.declared.Value.{Value}
+use Rattle.source_values.specs.declared.Value.the-variants.{Of as OfValue, Ended as EndedValue}
 use Rattle.source_values.specs.declared.Truth.{Truth}
 
 -- ---- A tick
 
-pub tick-none : (left : ℕ) (m : Store) → left ≡ 0 → tick (state left m) ≡ ended (spent, state 0 m)
-unfolding tick charge
-tick-none zero m e = refl
-tick-none (suc n) m e = absurd (omega arith)
+-- what a run that ends here comes with, and the state one tick on
+abbrev pub left-so : State → Ending
+left-so s = ending (s .left) (s .mark) (s .store)
 
-pub tick-one : (left : ℕ) (m : Store) → (left ≡ 0 → ⊥) → tick (state left m) ≡ ok tt (state (left - 1) m)
-unfolding tick charge
-tick-one zero m e = absurd (e refl)
-tick-one (suc n) m e = ap (λ (k : ℕ). ok tt (state k m)) (omega arith)
+abbrev pub one-on : State → State
+one-on s = state (s .left - 1) (s .height) (s .mark) (s .store)
+
+pub tick-none : (s : State) → s .left ≡ 0 → tick s ≡ ended (spent, left-so s)
+unfolding tick
+tick-none s e = by (s .left) refl e
+  where
+    by : (n : ℕ) → s .left ≡ n → n ≡ 0 → charge n s ≡ ended (spent, left-so s)
+    by zero f e = unfold charge in refl
+    by (suc n) f e = absurd (omega arith)
+
+pub tick-one : (s : State) → (s .left ≡ 0 → ⊥) → tick s ≡ ok tt (one-on s)
+unfolding tick
+tick-one s e = by (s .left) refl
+  where
+    by : (n : ℕ) → s .left ≡ n → charge n s ≡ ok tt (one-on s)
+    by zero f = absurd (e f)
+    by (suc n) f =
+        unfold charge in ap (λ (k : ℕ). ok tt (state k (s .height) (s .mark) (s .store))) (omega arith)
 
 -- A tick and then more
-module _ {B : Type 0} (n left : ℕ) (m : Store) (k : Unit {0} → Rule B) where
-  pub spends : left ≡ 0 → reaching n (then′ (tick (state left m)) k) ≡ ended (spent, state 0 m)
+module _ {B : Type 0} (n : ℕ) (s : State) (k : Unit {0} → Rule B) where
+  pub spends : s .left ≡ 0 → reaching n (then′ (tick s) k) ≡ ended (spent, left-so s)
   unfolding then′
-  spends e = ap (λ o. reaching n (then′ o k)) (tick-none left m e)
+  spends e = ap (λ o. reaching n (then′ o k)) (tick-none s e)
 
-  pub goes : (left ≡ 0 → ⊥) → reaching n (then′ (tick (state left m)) k) ≡ reaching n (k tt (state (left - 1) m))
+  pub goes : (s .left ≡ 0 → ⊥) → reaching n (then′ (tick s) k) ≡ reaching n (k tt (one-on s))
   unfolding then′
-  goes e = ap (λ o. reaching n (then′ o k)) (tick-one left m e)
+  goes e = ap (λ o. reaching n (then′ o k)) (tick-one s e)
+
+-- ---- Marks
+
+-- Nothing was put on the stack: the mark is as it was.
+pub stays-marked : {A : Type 0} (left h μ : ℕ) (m : Store) → h ≤ μ
+    → _≡_ {A = Outcomes A} (ended (spent, ending left (max μ (h + 0)) m)) (ended (spent, ending left μ m))
+stays-marked left h μ m l =
+    let same : max μ (h + 0) ≡ μ = omega arith in ap (λ μ. ended (spent, ending left μ m)) same
+
+-- One value was.
+pub pushed-one : (left h μ : ℕ) (m : Store) {n : ℕ} {z z′ : ℤ} → z ≡ z′
+    → _≡_ {A = Outcomes (Reached ℤ)} (ok (z upto n) (state left (suc h) (max μ (h + 1)) m))
+    (ok (z′ upto n) (state left (suc h) (max μ (suc h)) m))
+pushed-one left h μ m {n = n} e =
+    let same : max μ (h + 1) ≡ max μ (suc h) = omega arith in
+    ap₂ (λ z μ. ok (z upto n) (state left (suc h) μ m)) e same
+
+-- Of two sides, the second one value higher
+pub joined : (h μ first second : ℕ) {high : ℕ} → high ≡ max first (second + 1)
+    → max μ (h + high) ≡ max (max μ (h + first)) (suc h + second)
+joined h μ first second e = omega arith
+
+pub within-told : (most : ℕ) {r r′ : Value} → r ≡ r′ → Within r most → Within r′ most
+within-told most e w = subst (λ r. Within r most) e w
+
+pub within-more : (r : Value) (most more : ℕ) → most ≤ more → Within r most → Within r more
+within-more (OfValue z high next) most more l w = (w .0, omega (arith, w .1))
+within-more (EndedValue e high) most more l w = omega arith
 
 -- ---- What a call gave, by a match on its result, is the rules' outcome
 
-pub value-told : (m : Store) {r r′ : Value} {o : Outcomes (Reached ℤ)} → r ≡ r′ → valued r m ≡ o → o ≡ valued r′ m
-value-told m e f = sym f ∙ ap (λ r. valued r m) e
+pub value-told : (left h μ : ℕ) (m : Store) {r r′ : Value} {o : Outcomes (Reached ℤ)} → r ≡ r′
+    → valued r left h μ m ≡ o → o ≡ valued r′ left h μ m
+value-told left h μ m e f = sym f ∙ ap (λ r. valued r left h μ m) e
 
-pub truth-told : (m : Store) {r r′ : Truth} {o : Outcomes (Reached Bool)} → r ≡ r′ → tested r m ≡ o → o ≡ tested r′ m
-truth-told m e f = sym f ∙ ap (λ r. tested r m) e
+pub truth-told : (left μ : ℕ) (m : Store) {r r′ : Truth} {o : Outcomes (Reached Bool)} → r ≡ r′
+    → tested r left μ m ≡ o → o ≡ tested r′ left μ m
+truth-told left μ m e f = sym f ∙ ap (λ r. tested r left μ m) e
 
 -- ---- A part's rule, and what its place came to
 
@@ -62,7 +107,7 @@ module _ {A B : Type 0} (f : A → Rule B) where
   reached n (ok w u) e = (cc, cc)
   reached n (ended k) e = absurd (let z : _≡_ {A = ℕ} 0 1 = cc in omega arith)
 
-  unreached : (n : ℕ) {k : Early × State} (o : Outcomes B) → reaching n o ≡ ended k → o ≡ ended k
+  unreached : (n : ℕ) {k : Early × Ending} (o : Outcomes B) → reaching n o ≡ ended k → o ≡ ended k
   unfolding then′ give
   unreached n (ok w u) e = absurd (let z : _≡_ {A = ℕ} 0 1 = cc in omega arith)
   unreached n (ended k) e = cc
@@ -72,7 +117,7 @@ module _ {A B : Type 0} (f : A → Rule B) where
       → placed f x s ≡ ok (z upto m) t → (f a s ≡ ok z t) × (n ≡ m)
   gave {a = a} {n = n} s e h = reached n (f a s) (sym (placed-is s e) ∙ h)
 
-  pub stopped : {x : Outcome ℕ Refusal A} {a : A} {n : ℕ} {k : Early × State} (s : State) → x ≡ ok a n
+  pub stopped : {x : Outcome ℕ Refusal A} {a : A} {n : ℕ} {k : Early × Ending} (s : State) → x ≡ ok a n
       → placed f x s ≡ ended k → f a s ≡ ended k
   stopped {a = a} {n = n} s e h = unreached n (f a s) (sym (placed-is s e) ∙ h)
 
@@ -86,7 +131,7 @@ module _ {A B C U Z : Type 0} (f : A → Rule U) (k : C → Rule Z) {x : Outcome
   whole-is : placed k whole s ≡ reaching n (then′ (f (t .one) s) (λ u. next u (t .two)))
   whole-is = placed-is k s w ∙ ap (reaching n) (ap (λ c. k c s) (t .is) ∙ does s)
 
-  pub begin-ended : {e : Early × State} → placed f x s ≡ ended e → placed k whole s ≡ ended e
+  pub begin-ended : {e : Early × Ending} → placed f x s ≡ ended e → placed k whole s ≡ ended e
   unfolding then′ give
   begin-ended p = whole-is ∙ ap (λ o. reaching n (then′ o (λ u. next u (t .two)))) (stopped f s (t .first) p)
 
@@ -105,7 +150,7 @@ module _ {A B C U Z : Type 0} (f : A → Rule U) (k : C → Rule Z) {x : Outcome
 
 -- A part whose rule is another rule and then `rest`
 module _ {A U Z : Type 0} (f : A → Rule U) (rest : U → Rule Z) where
-  pub then-ended : (x : Outcome ℕ Refusal A) {e : Early × State} (s : State) → placed f x s ≡ ended e
+  pub then-ended : (x : Outcome ℕ Refusal A) {e : Early × Ending} (s : State) → placed f x s ≡ ended e
       → placed (λ a s. then′ (f a s) rest) x s ≡ ended e
   unfolding placed then′ give
   then-ended (ok a n) s p = ap (λ o. reaching n (then′ o rest)) (unreached f n (f a s) p)

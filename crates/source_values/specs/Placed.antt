@@ -4,7 +4,7 @@ use Prim.Native.Nat.{ℕ}
 use mathlib.Core.Bool.{Bool, not}
 use Rattle.base.specs.Acts.{Outcome, ok, ended, then′, give}
 use Rattle.base.specs.Answers.{Refusal}
-use Rattle.source.specs.Rules.{Rule, Outcomes, spent}
+use Rattle.source.specs.Rules.{Rule, Outcomes, spent, stop}
 
 -- A part was read
 pub record Read {A : Type 0} (x : Outcome ℕ Refusal A) : Type 0 where
@@ -20,10 +20,14 @@ pub data Reached (B : Type 0) : Type 0 where
 abbrev pub reaching : {B : Type 0} → ℕ → Outcomes B → Outcomes (Reached B)
 reaching n o = then′ o (λ z. give (z upto n))
 
+-- A rule, and the position after its part
+abbrev pub up-to : {B : Type 0} → ℕ → Rule B → Rule (Reached B)
+up-to n rule s = reaching n (rule s)
+
 -- The rule of the part that was read; a part that was not read has none, and no call asks for it
 unfoldable pub placed : {A B : Type 0} → (A → Rule B) → Outcome ℕ Refusal A → Rule (Reached B)
-placed rule (ok a n) s = reaching n (rule a s)
-placed rule (ended r) s = ended (spent, s)
+placed rule (ok a n) = up-to n (rule a)
+placed rule (ended r) = stop spent
 
 -- The other truth, at the same position
 abbrev pub other : Reached Bool → Reached Bool

@@ -9,3 +9,4 @@ pub mod Ranges
 pub mod Opened
 pub mod Same
 pub mod Respelling
+pub mod Longer

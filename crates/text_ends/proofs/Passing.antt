@@ -213,7 +213,7 @@ least : (t : Bool) (m k : ℕ) {l : ℕ} → l ≤ m → l ≤ k → l ≤ (if t
 least true m k p q = p
 least false m k p q = q
 
-wide : (b : ℕ) → 1 ≤ width b
+pub wide : (b : ℕ) → 1 ≤ width b
 unfolding width
 wide b =
     least (eqb b 0x01) 2 _ (omega arith) (least (begins-constant b) (1 + constant-width b) _ (omega arith)

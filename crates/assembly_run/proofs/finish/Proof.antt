@@ -65,7 +65,8 @@ begins c =
     record {
       store-long = refl;
       stack-long = refl;
-      going = λ g. record { placed = p .placed; held = p .held; used = p .used; same = refl };
+      going =
+          λ g. record { placed = p .placed; held = p .held; marked = p .marked; used = p .used; same = refl };
     }
 
 -- ---- No step: done, or spent
@@ -106,12 +107,13 @@ step-requires c κs =
     let g = l .inv .going (had s) in
     let placed : l .machine .position ≤ s .args .last = g .placed in
     let used : l .machine .count ≤ s .args .budget = g .used in
-    let held : l .machine .size ≤ length (s .args .stack .now) = g .held in (
+    let marked : l .machine .mark ≤ length (s .args .stack .now) = g .marked in (
       record {
         long = search needs;
         few = s .pre .0 .few;
         placed = omega (arith, not-done .if1 .left);
-        held = omega (arith, l .inv .stack-long);
+        held = g .held;
+        marked = omega (arith, l .inv .stack-long);
         room = omega (arith, not-spent .if2 .left, s .fits .budget .fits);
       },
       record {

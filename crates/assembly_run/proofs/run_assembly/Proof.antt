@@ -27,7 +27,13 @@ finish-requires c κs =
       subst
           (λ (m : Machine). Starts m (arm .last .given .0 .0) (s .stack .now) (s .budget))
           (sym (made .fresh .ensures))
-          (record { few = f .code-is .few; placed = search needs; held = search needs; used = search needs }),
+          (record {
+            few = f .code-is .few;
+            placed = search needs;
+            held = search needs;
+            marked = search needs;
+            used = search needs;
+          }),
       record { records = f .records; given = f .code-is .given; whole = f .code-is .whole; sized = f .sized },
     )
 

@@ -37,7 +37,7 @@ go-back-spec =
     omega (arith, p .room))
     (λ c. search needs)
     (λ c κs.
-    let y : tie.After-copy = search in
+    let y : tie.After-copy-bytes = search in
     let i : tie.After-invert = search in
     let n : tie.After-n = search in
     let t : tie.After-test = search in
@@ -47,7 +47,7 @@ go-back-spec =
       tests = passed _ _ _ (t .test .ensures) (n .n .given .1);
       bytes = λ j. bytes .shared-slice-known .given j .fits;
       names-are = i .invert .ensures;
-      copy-is = y .copy .ensures;
+      copy-is = y .copy-bytes .ensures;
     } in
     (back-renames x, back-holds x))
     (λ c. search needs)
@@ -55,7 +55,7 @@ go-back-spec =
     (λ c. search needs)
     (λ c.
     let r : tie.After-rename-records = search in
-    let y : tie.After-copy = search in
+    let y : tie.After-copy-bytes = search in
     let i : tie.After-invert = search in
     let n : tie.After-n = search in
     let t : tie.After-test = search in
@@ -65,6 +65,6 @@ go-back-spec =
       tests = passed _ _ _ (t .test .ensures) (n .n .given .1);
       bytes = λ j. bytes .shared-slice-known .given j .fits;
       names-are = i .invert .ensures;
-      copy-is = y .copy .ensures;
+      copy-is = y .copy-bytes .ensures;
     } in
     gone-back x (r .rename-records .ensures)))

@@ -65,7 +65,8 @@ begins c =
     let p = s .pre .0 in
     record {
       long = refl;
-      going = λ g. record { placed = p .placed; held = p .held; used = p .used; same = refl };
+      going =
+          λ g. record { placed = p .placed; held = p .held; marked = p .marked; used = p .used; same = refl };
     }
 
 -- ---- No step: done, or spent
@@ -109,6 +110,7 @@ step-requires c κs =
         few = s .pre .0 .few;
         placed = omega (arith, not-done .if1 .left);
         held = g .held;
+        marked = g .marked;
         room = omega (arith, not-spent .if2 .left, s .fits .budget .fits);
       },
       record {

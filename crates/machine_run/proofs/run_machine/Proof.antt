@@ -22,7 +22,13 @@ finish-requires c κs =
       subst
           (λ (m : Machine). Starts m (s .depth) (arm .last .given .0 .0) (s .budget))
           (sym (made .fresh .ensures))
-          (record { few = f .code-is .few; placed = search needs; held = search needs; used = search needs }),
+          (record {
+            few = f .code-is .few;
+            placed = search needs;
+            held = search needs;
+            marked = search needs;
+            used = search needs;
+          }),
       record {
         n = s .cells;
         records = f .records;

@@ -1,6 +1,6 @@
--- The answer that was matched is packed. An end's number is small, so that the sum fits.
+-- The answer that was matched is packed. An end's number is small and a mark is cut off, so that the sum fits.
 use mathlib.Core.Path.{sym, ap, _∙_}
-use Prim.Native.Nat.{_+_, _*_, _≤_}
+use Prim.Native.Nat.{_≤_}
 use native.Mathlib.Omega.{arith}
 use borrow.Author.Needs.{needs}
 use Rattle.base.specs.Ends.{End, done, spent, fault, short, full, out-of-range, astray}
@@ -35,10 +35,18 @@ pack-run-spec =
     (λ c. search needs)
     (λ c. search needs)
     (λ c. let b = small c in omega arith)
+    (λ c κs. search needs)
+    (λ c. search needs)
+    (λ c.
+    let number : tie.After-end-number = search in
+    let b = small number in
+    let cut = c .one-byte .ensures in
+    omega arith)
     (λ c.
     let matched : tie.After-run = search in
     c .pack-refusal .ensures ∙ sym (ap (λ x. packed-run (run-answer x)) (matched .run .given .1)))
     (λ c.
+    let number : tie.After-end-number = search in
     let matched : tie.After-run2 = search in
-    let x = matched .run2 .given in
-    ap (λ n. 256 * n + 65536 * x .0 .1 .0) (c .end-number .ensures) ∙ sym (ap (λ x. packed-run (run-answer x)) (x .1))))
+    rw (c .one-byte .ensures, number .end-number .ensures)
+    (sym (ap (λ x. packed-run (run-answer x)) (matched .run2 .given .1)))))

@@ -4,11 +4,11 @@ use Prim.Native.Nat.{_≤_}
 use native.Mathlib.Omega.{arith}
 use borrow.Author.Needs.{needs}
 use lib.ListN.{length}
+use Rattle.base.specs.Code.{end-of}
 use Rattle.record.specs.Bytes.{assembly-kind}
 use Rattle.record.proofs.Tested.{records-length}
 use Rattle.print_ascii.proofs.Puts.{puts-both}
 use Rattle.print.specs.Printing.{record-lines}
-use Rattle.print_lines.specs.Code.{ran}
 use Rattle.print_lines.proofs.Lengths.{first-line-length, record-lines-length, run-line-length}
 use Rattle.print_render.proofs.put_lines.Statement.{statement}
 use Rattle.print_render.proofs.put_lines.Tie as tie
@@ -52,7 +52,7 @@ put-lines-spec =
     let p = s .pre in
     let some = p .1 .1 .1 in
     let put = r .put-record-lines .ensures (some .n) (some .P) (some .Q) (some .codes) in
-    let run = run-line-length (ran (s .args .end) (s .args .count)) in
+    let run = run-line-length (end-of (s .args .end)) (s .args .count) in
     (omega (arith, first-line-length (s .args .sizes), short s), (omega arith, omega arith)))
     (λ c. search needs)
     all-lines)

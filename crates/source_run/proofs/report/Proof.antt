@@ -1,10 +1,10 @@
 -- `report` meets its contract, by cases: the run is done, or ended early.
 use mathlib.Core.Path.{sym, ap, _∙_}
 use Prim.Native.Nat.{_-_}
-use native.Mathlib.Omega.{arith}
 use borrow.Author.Needs.{needs}
 use Rattle.base.specs.Answers.{gives}
-use Rattle.source_run.specs.Code.{ticks-left, ran}
+use Rattle.base.specs.Ends.{ran}
+use Rattle.source_run.specs.Code.{told}
 use Rattle.source_run.proofs.report.Statement.{statement}
 use Rattle.source_run.proofs.report.Tie as tie
 
@@ -13,25 +13,21 @@ report-spec =
     tie.close
     (tie.spec
     (λ c. search needs)
-    -- sub-t8
-    (λ c.
-    let s : tie.Start = search in
-    omega (arith, ap ticks-left (c .before .progress .given .1), s .pre))
+    (λ c. search needs)
     (λ c. search needs)
     (λ c κs. search needs)
-    -- sub-t10
-    (λ c.
-    let p : tie.After-progress2 = search in
-    let s : tie.Start = search in
-    omega (arith, ap ticks-left (p .progress2 .given .1), s .pre))
+    (λ c. search needs)
     -- returns
     (λ c.
+    let p : tie.After-enum-told = search in
     let s : tie.Start = search in
-    sym (ap (λ p. gives (ran p (s .args .budget))) (c .before .progress .given .1)))
+    let a = s .args in
+    sym (ap (λ p. gives (told p (a .budget) (a .left) (a .mark))) (p .enum-told .given .1)))
     -- returns-2
     (λ c.
-    let p : tie.After-progress2 = search in
+    let p : tie.After-progress = search in
+    let e : tie.After-end-of = search in
     let s : tie.Start = search in
-    let count = s .args .budget - p .progress2 .given .0 .1 .0 in
-    ap (λ e. gives (record { end = e; count = count })) (c .end-of .ensures)
-    ∙ sym (ap (λ p. gives (ran p (s .args .budget))) (p .progress2 .given .1))))
+    let a = s .args in
+    ap (λ e. gives (ran e (a .budget - a .left) (a .mark))) (e .end-of .ensures)
+    ∙ sym (ap (λ p. gives (told p (a .budget) (a .left) (a .mark))) (p .progress .given .1))))

@@ -10,6 +10,5 @@ run-long-spec =
     tie.close
     (tie.spec
     (λ c. search needs)
-    (λ c κs. let s : tie.Start = search in (s .pre, (knows-nothing 4096, refl)))
-    (λ c. search needs)
+    (λ c κs. let s : tie.Start = search in (s .pre .0, (s .pre .1, (knows-nothing 4096, refl))))
     (λ c. search needs))

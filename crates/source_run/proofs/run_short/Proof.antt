@@ -10,6 +10,5 @@ run-short-spec =
     tie.close
     (tie.spec
     (λ c. search needs)
-    (λ c κs. let s : tie.Start = search in (s .pre, (knows-nothing 256, refl)))
-    (λ c. search needs)
+    (λ c κs. let s : tie.Start = search in (s .pre .0, (s .pre .1, (knows-nothing 256, refl))))
     (λ c. search needs))

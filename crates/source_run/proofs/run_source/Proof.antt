@@ -1,10 +1,14 @@
--- `run_source` meets its contract: it declines by its tests, or runs the text's command (Whole), without part ends noted
--- or with them.
-use mathlib.Core.Path.{sym, ap, _∙_}
+-- `run_source` meets its contract: it declines by its tests, or runs the text on a copy of the store and copies that back.
+use mathlib.Core.Path.{_≡_, refl, sym, ap, _∙_}
+use native.Mathlib.Omega.{arith}
+use lib.IntN.{pos}
+use lib.ListN.{length, length-replicate}
 use borrow.Author.Needs.{needs}
+use Rattle.base.specs.Code.{run-answer}
 use Rattle.text.specs.Code.{sizes-answer}
-use Rattle.text_shape.proofs.Caching.{knows-nothing}
-use Rattle.source_run.proofs.Whole.{declines, accepted, passed, whole-read, run}
+use Rattle.source.proofs.Calls.{source-runs}
+use Rattle.source_run.specs.Code.{runs}
+use Rattle.source_run.proofs.Whole.{declines, accepted, passed, Passed}
 use Rattle.source_run.proofs.run_source.Statement.{statement}
 use Rattle.source_run.proofs.run_source.Tie as tie
 
@@ -15,47 +19,45 @@ run-source-spec =
     (λ c κs. search needs)
     (λ c. search needs)
     (λ c. search needs)
-    (λ c κs. search needs)
     (λ c. search needs)
-    -- execute-requires
+    -- copy-cells-requires
     (λ c κs.
     let x : tie.After-enum-told = search in
     let r : tie.After-test = search in
     let p = passed _ _ (accepted _ _ (sym (ap sizes-answer (x .enum-told .given .1)) ∙ r .test .ensures) .1) in
-    (whole-read p, (p .long, knows-nothing 1)))
-    -- report-requires
+    omega (arith, p .long, length-replicate 64 (pos 0)))
+    -- run-text-requires
     (λ c κs.
-    let e : tie.After-execute = search in
+    let k : tie.After-copy-cells = search in
     let x : tie.After-enum-told = search in
     let r : tie.After-test = search in
     let p = passed _ _ (accepted _ _ (sym (ap sizes-answer (x .enum-told .given .1)) ∙ r .test .ensures) .1) in
-    run p _ (e .execute .result) (e .execute .last .1 .1 .1 .0) (e .execute .ensures) .few)
+    ((p .text-command, p .is), ap length (k .copy-cells .ensures) ∙ p .long))
+    (λ c. search needs)
+    -- copy-cells-requires-2
+    (λ c κs.
+    let t : tie.After-run-text = search in
+    let x : tie.After-enum-told = search in
+    let r : tie.After-test = search in
+    let p = passed _ _ (accepted _ _ (sym (ap sizes-answer (x .enum-told .given .1)) ∙ r .test .ensures) .1) in
+    omega (arith, p .long, t .run-text .ensures .1))
     (λ c. search needs)
     -- returns
     (λ c.
-    let told : tie.After-report = search in
-    let e : tie.After-execute = search in
-    let x : tie.After-enum-told = search in
+    let x : tie.After-refusal = search in
     let r : tie.After-test = search in
-    let p = passed _ _ (accepted _ _ (sym (ap sizes-answer (x .enum-told .given .1)) ∙ r .test .ensures) .1) in
-    let m = e .execute .last .1 .1 .1 .0 in
-    ap (λ a. (a, m)) (told .report .ensures) ∙ run p _ (e .execute .result) m (e .execute .ensures) .same)
-    -- run-short-requires
-    (λ c κs.
-    let x : tie.After-enum-told = search in
-    let r : tie.After-test = search in
-    accepted _ _ (sym (ap sizes-answer (x .enum-told .given .1)) ∙ r .test .ensures))
+    declines _ _ _ (sym (ap sizes-answer (x .refusal .given .1)) ∙ r .test .ensures))
     (λ c. search needs)
-    (λ c. search needs)
-    -- run-long-requires
-    (λ c κs.
-    let x : tie.After-enum-told = search in
-    let r : tie.After-test = search in
-    accepted _ _ (sym (ap sizes-answer (x .enum-told .given .1)) ∙ r .test .ensures))
-    (λ c. search needs)
-    -- returns-3
+    -- returns-2
     (λ c.
+    let b : tie.After-copy-cells2 = search in
+    let t : tie.After-run-text = search in
+    let k : tie.After-copy-cells = search in
+    let x : tie.After-enum-told = search in
     let r : tie.After-test = search in
-    declines _ _ _ (sym (ap sizes-answer (c .before .refusal .given .1)) ∙ r .test .ensures))
-    (λ c. search needs)
-    (λ c. search needs))
+    let s : tie.Start = search in
+    let p = passed _ _ (accepted _ _ (sym (ap sizes-answer (x .enum-told .given .1)) ∙ r .test .ensures) .1) in
+    ap (λ m. (run-answer (t .run-text .result), m)) (b .copy-cells2 .ensures)
+    ∙ t .run-text .ensures .0 (p .text-command) (p .is)
+    ∙ ap (runs (p .text-command) (s .args .budget)) (k .copy-cells .ensures)
+    ∙ sym (source-runs (s .args .text .now) (p .text-command) (s .args .store .now) (s .args .budget) (p .is) (p .long))))

@@ -21,18 +21,20 @@ unfolding truth
 costs-none v flag s e = ap (λ b. (if b then (do tick; give v) else give v) s) e
 
 returns : tie.Need-returns
-returns c m =
+returns c μ m =
     let on : tie.Then1 = search in
-    c .spent .ensures m
-    ∙ sym (ap (reaching _) (ticks _ _ _ (on .if1 .taken)) ∙ spends _ _ m _ (c .before .if2 .taken))
+    sym (ap (reaching _) (ticks _ _ _ (on .if1 .taken)) ∙ spends _ _ _ (c .if2 .taken))
 
 returns-2 : tie.Need-returns-2
 unfolding then′ give
-returns-2 c m = sym (ap (reaching _) (ticks _ _ _ (c .before .if1 .taken)) ∙ goes _ _ m _ (c .if2 .left))
+returns-2 c μ m =
+    let on : tie.Then1 = search in
+    let some : tie.Else2 = search in
+    sym (ap (reaching _) (ticks _ _ _ (on .if1 .taken)) ∙ goes _ _ _ (some .if2 .left))
 
 returns-3 : tie.Need-returns-3
 unfolding then′ give
-returns-3 c m = sym (ap (reaching _) (costs-none _ _ _ (c .if1 .left)))
+returns-3 c μ m = sym (ap (reaching _) (costs-none _ _ _ (c .if1 .left)))
 
 pub bc-spec : {M : Type 1} → statement M
 bc-spec =
@@ -40,7 +42,6 @@ bc-spec =
     (tie.spec
     (λ c. search needs)
     (λ c. search needs)
-    (λ c κs. search needs)
     returns
     (λ c. search needs)
     (λ c. search needs)

@@ -14,7 +14,7 @@ use Rattle.machine_step.proofs.Machine.add.Tie as tie
 
 -- where the record is done
 abbrev here : (s : tie.Start) → List ℤ → let l = s .args .limits .layout in Place (Lent l) (Named l)
-here s store = place (s .args .self) (s .args .limits) store (s .args .lent .now)
+here s store = place (s .args .self) (s .pre .held) (s .args .limits) store (s .args .lent .now)
 
 short : tie.Need-returns
 short c store =
@@ -37,7 +37,7 @@ pushed c store =
     add-pushed (here s store) (c .moves .ensures)
     (poked l store lent (s .args .self .size - 2) (toZ w32 (ofZ w32 (z .0 .0))) (put .poke .ensures))
     (toZ-ofZ {w = w32} {z = z .0 .0} (record { sfits = fits .known-told .given .0 .1 }))
-    (test .if1 .left) (s .pre .held)
+    (test .if1 .left) (s .pre .marked)
     (summed (here s store) (sum .add .ensures) (peeked l store lent _ (x .peek .ok) (x .peek .ensures))
     (peeked l store lent _ (y .peek2 .ok) (y .peek2 .ensures)) (z .1))
 
@@ -51,7 +51,7 @@ out c store =
     let s : tie.Start = search in
     let l = s .args .limits in
     let lent = s .args .lent .now in
-    add-leaves-range (here s store) (c .stops2 .ensures) (test .if1 .left) (s .pre .held)
+    add-leaves-range (here s store) (c .stops2 .ensures) (test .if1 .left) (s .pre .marked)
     (summed (here s store) (sum .add .ensures) (peeked l store lent _ (x .peek .ok) (x .peek .ensures))
     (peeked l store lent _ (y .peek2 .ok) (y .peek2 .ensures)) (told .enum-told .given .1))
 

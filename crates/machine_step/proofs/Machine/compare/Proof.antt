@@ -12,7 +12,7 @@ use Rattle.machine_step.proofs.Machine.compare.Tie as tie
 
 -- where the record is done
 abbrev here : (s : tie.Start) → List ℤ → let l = s .args .limits .layout in Place (Lent l) (Named l)
-here s store = place (s .args .self) (s .args .limits) store (s .args .lent .now)
+here s store = place (s .args .self) (s .pre .held) (s .args .limits) store (s .args .lent .now)
 
 short : tie.Need-returns
 short c store =

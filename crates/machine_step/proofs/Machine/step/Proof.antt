@@ -43,7 +43,7 @@ module _ (b : tie.After-byte-at) where
 
   -- where the record is done
   abbrev here : Place (List ℤ) Address
-  here = place (start .args .self) (downward (start .args .depth) (start .args .last)) [] memory
+  here = place (start .args .self) (start .pre .0 .held) (downward (start .args .depth) (start .args .last)) [] memory
 
   -- the operand's lowest byte
   abbrev low : ℕ

@@ -47,7 +47,7 @@ module _ (b : tie.After-byte-at) where
 
   -- where the record is done
   abbrev here : Place Assembly Variable
-  here = place (start .args .self) (upward (length stack) (start .args .last)) variables stack
+  here = place (start .args .self) (start .pre .0 .held) (upward (length stack) (start .args .last)) variables stack
 
   -- the operand's lowest byte
   abbrev low : ℕ

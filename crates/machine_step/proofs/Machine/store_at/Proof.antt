@@ -18,7 +18,9 @@ use Rattle.machine_step.proofs.Machine.store_at.Tie as tie
 
 -- where the record is done
 abbrev here : tie.Start → Place (List ℤ) Address
-here s = let x = s .args .limits in place (s .args .self) (downward (x .depth) (x .last)) [] (s .args .memory .now)
+here s =
+    let x = s .args .limits in
+    place (s .args .self) (s .pre .0 .0 .held) (downward (x .depth) (x .last)) [] (s .args .memory .now)
 
 short : tie.Need-returns
 short c =

@@ -20,8 +20,9 @@ use Rattle.machine_step.proofs.Machine.store_in.Tie as tie
 -- where the record is done
 abbrev here : tie.Start → Place Assembly Variable
 here s =
-    let stack = s .args .stack .now in
-    place (s .args .self) (upward (length stack) (s .args .limits .last)) (s .args .store .now) stack
+    let a = s .args in
+    let stack = a .stack .now in
+    place (a .self) (s .pre .0 .0 .held) (upward (length stack) (a .limits .last)) (a .store .now) stack
 
 short : tie.Need-returns
 short c =

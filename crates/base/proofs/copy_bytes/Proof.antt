@@ -1,16 +1,18 @@
--- `copy` writes bytes over the start of a buffer: a sweep to what then stands there, which past the bytes is as before.
+-- `copy_bytes` writes bytes over the start of a buffer: a sweep to what then stands there, which past the bytes is as before.
 use mathlib.Core.Path.{_≡_, sym, ap, _∙_}
-use mathlib.Core.List.{List}
+use mathlib.Core.List.{List, _++_}
 use Prim.Native.Nat.{ℕ, _+_, _-_, _<_, _≤_}
 use native.Mathlib.Omega.{arith}
-use lib.ListN.{length, getD, drop, List·getD-append}
+use lib.ListN.{length, getD, drop, length-append, length-drop, List·getD-append}
 use lib.Seq.{getD-append-add, getD-drop}
 use borrow.Author.Needs.{needs}
 use Rattle.base.proofs.Sweep.{Swept, swept-start, swept-set, swept-stop}
-use Rattle.record.specs.Bytes.{over}
-use Rattle.record.proofs.Bytes.{length-over}
-use Rattle.compile_back.proofs.copy.Statement.{statement}
-use Rattle.compile_back.proofs.copy.Tie as tie
+use Rattle.base.proofs.copy_bytes.Statement.{statement}
+use Rattle.base.proofs.copy_bytes.Tie as tie
+
+-- the bytes, and what stood behind them
+abbrev over : List ℕ → List ℕ → List ℕ
+over new old = new ++ drop (length new) old
 
 -- Past the bytes the buffer is as it was.
 after : (new old : List ℕ) (w : ℕ) → length new ≤ w → getD old w 0 ≡ getD (over new old) w 0
@@ -38,8 +40,8 @@ again c =
       swept-set (turn .loop .inv .1) (omega (arith, s .pre)) (sym (List·getD-append bytes _ 0 (turn .loop .i) h)),
     )
 
-pub copy-spec : {M : Type 1} → statement M
-copy-spec =
+pub copy-bytes-spec : {M : Type 1} → statement M
+copy-bytes-spec =
     tie.close
     (tie.spec
     Inv-loop
@@ -59,4 +61,4 @@ copy-spec =
     let s : tie.Start Inv-loop μ-loop = search in
     swept-stop (turn .loop .inv .1)
     (λ w h. after (s .args .bytes .now) (s .args .out .now) w (omega (arith, c .loop-test .left)))
-    (length-over (s .args .bytes .now) (s .args .out .now) (s .pre))))
+    (simp (length-append, length-drop) (omega (arith, s .pre)))))
