@@ -1,7 +1,8 @@
-// The plain C that bench/run compiles. The proved libraries come with the crate of the tests.
+// The plain C that bench/run compiles, beside the proved libraries, which come with the crate of the tests.
 fn main() {
-    let root = std::env::var("CARGO_MANIFEST_DIR").unwrap();
-    println!("cargo:rustc-link-search=native={root}/../target/plain");
+    println!("cargo:rerun-if-env-changed=PROFILE_LIBRARIES");
+    let folder = std::env::var("PROFILE_LIBRARIES").expect("bench/run sets it");
+    println!("cargo:rustc-link-search=native={folder}");
     println!("cargo:rustc-link-lib=static=plain");
-    println!("cargo:rerun-if-changed={root}/../target/plain/libplain.a");
+    println!("cargo:rerun-if-changed={folder}/libplain.a");
 }

@@ -13,13 +13,21 @@ mod walker;
 const LONG_RUN: u32 = 20_000_000;
 const SKIPPING_RUN: u32 = 1_000_000;
 
-fn main() {
-    println!("medians of {} interleaved runs; a ratio is the proved call's time to the other's", timing::ROUNDS);
-    println!("times are the thread's own; stores and memories are cleared before each run; outputs and tables are not");
-    let (loops, skipping) = (texts::loops(), texts::skipping_loops());
+fn loops() {
+    let loops = texts::loops();
     runs::source(&loops, LONG_RUN);
     runs::assembly(&loops, LONG_RUN);
     runs::machine("machine code, ns per record", &loops, LONG_RUN);
+}
+
+fn main() {
+    if std::env::args().nth(1).as_deref() == Some("loops") {
+        return loops();
+    }
+    println!("medians of {} interleaved runs; a ratio is the proved call's time to the other's", timing::ROUNDS);
+    println!("times are the thread's own; stores and memories are cleared before each run; outputs and tables are not");
+    loops();
+    let skipping = texts::skipping_loops();
     runs::skipped_branch(&skipping, SKIPPING_RUN);
     runs::machine("machine code, the same, ns per record", &skipping, SKIPPING_RUN);
     let (long, profiles) = (texts::long(), texts::profiles());

@@ -24,44 +24,53 @@ extern "C" {
 
 const CALLS: u32 = 20_000;
 
-/// Spent at the budget; each of these loops comes to its deepest expression, so its mark is the text's D.
-fn spent(text: &[u8], budget: u32) -> Ran {
-    let Answer::Gives(sizes) = calls::read(text) else { panic!("not read") };
-    Ran { end: End::Spent, count: budget, mark: sizes.depth }
+/// The mark of a run that is spent at its budget.
+fn mark(ran: Ran, budget: u32) -> u8 {
+    assert_eq!((ran.end, ran.count), (End::Spent, budget));
+    ran.mark
+}
+
+fn proved_mark(answer: Answer<Ran>, budget: u32) -> u8 {
+    let Answer::Gives(ran) = answer else { panic!("{answer:?}") };
+    mark(ran, budget)
 }
 
 /// The same as the plain code packs it.
-fn plain_spent(text: &[u8], budget: u32) -> u64 {
-    1 << 8 | (budget as u64) << 16 | (spent(text, budget).mark as u64) << 48
+fn plain_mark(packed: u64, budget: u32) -> u8 {
+    assert_eq!(packed as u16, 1 << 8);
+    assert_eq!((packed >> 16) as u32, budget);
+    (packed >> 48) as u8
 }
 
 type Store = [i32; 64];
 
-fn walk_proved(text: &[u8], store: &mut Store, ticks: u32) {
+fn walk_proved(text: &[u8], store: &mut Store, ticks: u32) -> u8 {
     *store = [0; 64];
-    assert_eq!(calls::run_source(text, store, ticks), Answer::Gives(spent(text, ticks)));
+    proved_mark(calls::run_source(text, store, ticks), ticks)
 }
 
-fn walk_rust(text: &[u8], store: &mut Store, ticks: u32) {
+fn walk_rust(text: &[u8], store: &mut Store, ticks: u32) -> u8 {
     *store = [0; 64];
-    assert_eq!(walker::run(text, store, ticks), spent(text, ticks));
+    mark(walker::run(text, store, ticks), ticks)
 }
 
-fn walk_c(text: &[u8], store: &mut Store, ticks: u32) {
+fn walk_c(text: &[u8], store: &mut Store, ticks: u32) -> u8 {
     *store = [0; 64];
-    assert_eq!(unsafe { plain_run_source(text.as_ptr(), store.as_mut_ptr(), ticks) }, plain_spent(text, ticks));
+    plain_mark(unsafe { plain_run_source(text.as_ptr(), store.as_mut_ptr(), ticks) }, ticks)
 }
 
 pub fn source(loops: &[Text], ticks: u32) {
     heading("source executor, ns per tick", &["plain Rust", "plain C"], "");
     for (name, text) in loops {
         let [mut proved, mut rust, mut c] = [[0; 64]; 3];
+        let [mut marked, mut rust_mark, mut c_mark] = [0; 3];
         let times = medians([
-            &mut || walk_proved(text, &mut proved, ticks),
-            &mut || walk_rust(text, &mut rust, ticks),
-            &mut || walk_c(text, &mut c, ticks),
+            &mut || marked = walk_proved(text, &mut proved, ticks),
+            &mut || rust_mark = walk_rust(text, &mut rust, ticks),
+            &mut || c_mark = walk_c(text, &mut c, ticks),
         ]);
         assert_eq!((proved, proved), (rust, c));
+        assert_eq!((marked, marked), (rust_mark, c_mark));
         row(name, ticks, times, "");
     }
 }
@@ -70,11 +79,12 @@ pub fn skipped_branch(loops: &[Text], ticks: u32) {
     heading("source, skipped branch, ns per tick", &["plain Rust"], "");
     for (name, text) in loops {
         let [mut proved, mut rust] = [[0; 64]; 2];
+        let [mut marked, mut rust_mark] = [0; 2];
         let times = medians([
-            &mut || walk_proved(text, &mut proved, ticks),
-            &mut || walk_rust(text, &mut rust, ticks),
+            &mut || marked = walk_proved(text, &mut proved, ticks),
+            &mut || rust_mark = walk_rust(text, &mut rust, ticks),
         ]);
-        assert_eq!(proved, rust);
+        assert_eq!((proved, marked), (rust, rust_mark));
         row(name, ticks, times, "");
     }
 }
@@ -85,25 +95,25 @@ pub fn assembly(loops: &[Text], ticks: u32) {
         let (code, depth, _) = assembled(text);
         let [mut proved, mut rust, mut c] = [const { [0; 64] }; 3];
         let [mut stack, mut rust_stack, mut c_stack] = [vec![0; depth], vec![0; depth], vec![0; depth]];
+        let [mut marked, mut rust_mark, mut c_mark] = [0; 3];
         let times = medians([
             &mut || {
                 proved = [0; 64];
-                let ran = calls::run_assembly(&code, &mut proved, &mut stack, ticks);
-                assert_eq!(ran, Answer::Gives(spent(text, ticks)));
+                marked = proved_mark(calls::run_assembly(&code, &mut proved, &mut stack, ticks), ticks);
             },
             &mut || {
                 rust = [0; 64];
-                let ran = executors::run_assembly(&code, &mut rust, &mut rust_stack, ticks);
-                assert_eq!(ran, plain_spent(text, ticks));
+                rust_mark = plain_mark(executors::run_assembly(&code, &mut rust, &mut rust_stack, ticks), ticks);
             },
             &mut || {
                 c = [0; 64];
                 let (store, stack_at) = (c.as_mut_ptr(), c_stack.as_mut_ptr());
                 let ran = unsafe { plain_run_assembly(code.as_ptr(), code.len(), store, stack_at, depth, ticks) };
-                assert_eq!(ran, plain_spent(text, ticks));
+                c_mark = plain_mark(ran, ticks);
             },
         ]);
         assert_eq!((proved, proved), (rust, c));
+        assert_eq!((marked, marked), (rust_mark, c_mark));
         row(name, ticks, times, "");
     }
 }
@@ -114,23 +124,25 @@ pub fn machine(what: &str, loops: &[Text], ticks: u32) {
         let (code, _, depth, cells) = compiled(text);
         let size = depth + 1 + cells;
         let [mut proved, mut rust, mut c] = [vec![0; size], vec![0; size], vec![0; size]];
+        let [mut marked, mut rust_mark, mut c_mark] = [0; 3];
         let times = medians([
             &mut || {
                 proved.fill(0);
                 let ran = calls::run_machine(&code, &mut proved, depth as u64, cells as u64, ticks);
-                assert_eq!(ran, Answer::Gives(spent(text, ticks)));
+                marked = proved_mark(ran, ticks);
             },
             &mut || {
                 rust.fill(0);
-                assert_eq!(executors::run_machine(&code, &mut rust, depth, ticks), plain_spent(text, ticks));
+                rust_mark = plain_mark(executors::run_machine(&code, &mut rust, depth, ticks), ticks);
             },
             &mut || {
                 c.fill(0);
                 let ran = unsafe { plain_run_machine(code.as_ptr(), code.len(), c.as_mut_ptr(), depth, ticks) };
-                assert_eq!(ran, plain_spent(text, ticks));
+                c_mark = plain_mark(ran, ticks);
             },
         ]);
         assert_eq!((&proved, &proved), (&rust, &c));
+        assert_eq!((marked, marked), (rust_mark, c_mark));
         row(name, ticks, times, "");
     }
 }

@@ -75,7 +75,8 @@ fn each_value() {
             let sizes = calls::Sizes { records: 2, depth: 1, cells: 1 };
             assert_eq!(calls::assemble(&text, &mut out), Answer::Gives(sizes), "{z}");
             assert_eq!(out[..6], [&[0x40], &z.to_le_bytes()[..], &[0x43]].concat(), "{z}");
-            assert_eq!(calls::run_source(&text, &mut store, 2), Answer::Gives(Ran { end: End::Done, count: 2, mark: 1 }), "{z}");
+            let ran = Ran { end: End::Done, count: 2, mark: 1 };
+            assert_eq!(calls::run_source(&text, &mut store, 2), Answer::Gives(ran), "{z}");
             assert_eq!((store[0], &store[1..]), (z, &[7; 63][..]), "{z}");
         }
     }
