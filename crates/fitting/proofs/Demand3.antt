@@ -209,11 +209,13 @@ pub one-mark : OneMark
 one-mark text bytes c read lent memory m ready deep budget =
     let r = run-rules sum32 c budget (m .store) in
     let s = rules-same text bytes c read lent memory (m .store) ready budget in
+    let same = sym (assembly-fitted text bytes c read m deep (ready .store-cells) budget) ∙ s in
     record {
       tell = report budget r;
       leave = r .leaves;
       by-source = s;
-      by-assembly = sym (assembly-fitted text bytes c read m deep (ready .store-cells) budget) ∙ s;
+      by-assembly = ap (λ x. x .0) same;
+      assembly-leaves = ap (λ x. x .1) same;
       by-machine = machine-same text bytes c read lent memory (m .store) ready budget;
       never-above = mark-low text bytes c read lent memory (m .store) ready budget;
     }

@@ -8,7 +8,7 @@ use Prim.Native.Nat.{ℕ, _+_, _*_, _≤_}
 use mathlib.Core.List.{List}
 use lib.IntN.{ℤ}
 use lib.ListN.{length}
-use Rattle.base.specs.Answers.{Answer, gives}
+use Rattle.base.specs.Answers.{gives}
 use Rattle.base.specs.Ends.{Fault, End, fault, Ran, ran}
 use Rattle.text.specs.Syntax.{Command}
 use Rattle.text.specs.Reading.{read-text}
@@ -97,8 +97,8 @@ pub record ThreeAlike (text : List ℕ) (c : Command) (lent : Compiled) (memory 
   pub tell : Ran
   pub leave : Store
   pub by-source : run-source text (m .store) budget ≡ (gives tell, leave)
-  pub by-assembly : let r = run-assembly (code-bytes assembly-kind (ccomp c)) m budget in
-      _≡_ {A = Answer Ran × Store} (r .0, r .1 .store) (gives tell, leave)
+  pub by-assembly : run-assembly (code-bytes assembly-kind (ccomp c)) m budget .0 ≡ gives tell
+  pub assembly-leaves : run-assembly (code-bytes assembly-kind (ccomp c)) m budget .1 .store ≡ leave
   pub by-machine : four-calls text lent memory (m .store) budget ≡ gives (tell, leave)
   pub never-above : tell .mark ≤ depth c
 
