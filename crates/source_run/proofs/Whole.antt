@@ -1,5 +1,5 @@
--- The call `run_source`: its tests, from what reading comes to; and its run, from what the text's command came to at
--- the text's start.
+-- The call `run_source`: its tests, from what reading comes to; its run, from what the text's command came to at the
+-- text's start; and that a text in its buffer runs as the text does.
 use mathlib.Core.Path.{_≡_, refl, sym, ap, subst, _∙_}
 use Prim.Native.Nat.{ℕ, _≤_}
 use native.Mathlib.Nat.{le-refl}

@@ -129,6 +129,7 @@ fn run_noted(
     run_command(buffer, store, budget, ends)
 }
 
+// The same, with a cache for a short text.
 fn run_short(
     text: &[u8],
     buffer: &[u8; text::LONGEST],
@@ -145,6 +146,7 @@ fn run_short(
     run_noted(text, buffer, store, budget, from, &mut ends)
 }
 
+// The same, with a cache for any text.
 fn run_long(
     text: &[u8],
     buffer: &[u8; text::LONGEST],
