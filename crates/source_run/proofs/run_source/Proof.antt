@@ -1,5 +1,5 @@
 -- `run_source` meets its contract: it declines by its tests, or runs the text on a copy of the store and copies that back.
-use mathlib.Core.Path.{_≡_, refl, sym, ap, _∙_}
+use mathlib.Core.Path.{sym, ap, _∙_}
 use native.Mathlib.Omega.{arith}
 use lib.IntN.{pos}
 use lib.ListN.{length, length-replicate}
@@ -8,7 +8,7 @@ use Rattle.base.specs.Code.{run-answer}
 use Rattle.text.specs.Code.{sizes-answer}
 use Rattle.source.proofs.Calls.{source-runs}
 use Rattle.source_run.specs.Code.{runs}
-use Rattle.source_run.proofs.Whole.{declines, accepted, passed, Passed}
+use Rattle.source_run.proofs.Whole.{declines, accepted, passed}
 use Rattle.source_run.proofs.run_source.Statement.{statement}
 use Rattle.source_run.proofs.run_source.Tie as tie
 

@@ -1,7 +1,7 @@
 -- The cycle of calls {evaluate, plus}: the nesting left falls from a Plus to its sides. A constant, a variable and a
 -- Plus are what their first byte says (Opened); a Plus comes to what its sides come to (Compound).
-use Prim.Native.Nat.{ℕ, suc, _+_, _-_, _≤_, max}
-use mathlib.Core.Path.{_≡_, sym, ap, ap₂, _∙_}
+use Prim.Native.Nat.{ℕ, suc, _+_, _-_, max}
+use mathlib.Core.Path.{sym, ap, _∙_}
 use mathlib.Core.Logic.{inl}
 use native.Mathlib.Omega.{arith}
 use mir.Syntax.{w32}
@@ -13,10 +13,10 @@ use Rattle.text.specs.Reading.{expression}
 use Rattle.text.proofs.Opened.{Two, expression-opened, variable-at}
 use Rattle.text.proofs.Opened.{plus-at as sides-of-plus}
 use Rattle.text_shape.proofs.Constants.{constant-read, last-sum, last-constant}
-use Rattle.base.specs.Acts.{ok, ended}
+use Rattle.base.specs.Acts.{ended}
 use Rattle.source.specs.Rules.{state, ending}
-use Rattle.source_values.specs.Placed.{_upto_, placed, reaching}
-use Rattle.source_values.specs.Code.{early, summing, Within}
+use Rattle.source_values.specs.Placed.{reaching}
+use Rattle.source_values.specs.Code.{early, summing}
 use Rattle.source_values.proofs.Steps.{value-told, was-read, placed-is, within-told, within-more, joined}
 use Rattle.source_values.proofs.Compound.{valuing, plus-does, first-ended, right-read}
 use Rattle.source_values.proofs.Compound.{second-ended, both-ok}

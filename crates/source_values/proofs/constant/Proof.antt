@@ -1,5 +1,5 @@
 -- `constant` meets its contract: no tick is left, or one is taken and the value is the constant's (text_shape).
-use mathlib.Core.Path.{_≡_, sym, ap, ap₂, _∙_}
+use mathlib.Core.Path.{_≡_, sym, ap, _∙_}
 use Prim.Native.Nat.{suc, _+_, _-_, max}
 use native.Mathlib.Omega.{arith}
 use lib.ListN.{getD}

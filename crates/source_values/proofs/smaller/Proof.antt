@@ -1,5 +1,5 @@
 -- `smaller` meets its contract: a Less comes to what its sides come to, and then one tick (Compound).
-use Prim.Native.Nat.{suc, _+_, _-_, _≤_, max}
+use Prim.Native.Nat.{_+_, _-_, max}
 use mathlib.Core.Path.{_≡_, sym, ap, _∙_}
 use mathlib.Core.Bool.{false}
 use native.Mathlib.Omega.{arith}
@@ -13,7 +13,7 @@ use Rattle.base.specs.Acts.{ended}
 use Rattle.source.specs.Rules.{state, ending}
 use Rattle.source_values.specs.Placed.{reaching}
 use Rattle.source_values.specs.Code.{early, comparing}
-use Rattle.source_values.proofs.Steps.{value-told, was-read, within-told, joined}
+use Rattle.source_values.proofs.Steps.{value-told, was-read, within-told}
 use Rattle.source_values.proofs.Compound.{under, less-does, first-ended, right-read, second-ended}
 use Rattle.source_values.proofs.Compound.{both-ok}
 use Rattle.source_values.proofs.smaller.Statement.{statement}

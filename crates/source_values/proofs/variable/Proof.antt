@@ -1,5 +1,5 @@
 -- `variable` meets its contract: no tick is left, or one is taken and the cell is the value.
-use mathlib.Core.Path.{_≡_, sym, ap, _∙_}
+use mathlib.Core.Path.{_≡_, sym, _∙_}
 use Prim.Native.Nat.{_+_, _-_}
 use native.Mathlib.Omega.{arith}
 use lib.IntN.{pos}
@@ -7,9 +7,8 @@ use lib.ListN.{getD}
 use mir.Syntax.{w32}
 use mir.Val.{toZ, ofZ}
 use borrow.Author.Needs.{needs}
-use Rattle.base.specs.Acts.{ok, then′, give}
+use Rattle.base.specs.Acts.{then′, give}
 use Rattle.source.specs.Rules.{raise, cell, value}
-use Rattle.source_values.specs.Placed.{_upto_}
 use Rattle.source_values.proofs.Steps.{spends, goes, stays-marked, pushed-one}
 use Rattle.source_values.proofs.variable.Statement.{statement}
 use Rattle.source_values.proofs.variable.Tie as tie
