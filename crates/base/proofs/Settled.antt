@@ -31,6 +31,13 @@ unfolding and-then
 needed (gives a) rest e = record { value = a; given = refl; then-gives = e }
 needed (refused number place) rest e = not-both e
 
+-- Where only something of what tests give is told, a refusal is theirs.
+pub refused-first : {A B : Type 0} (first : Answer A) (f : A → B) {number place : ℕ}
+    → and-then first (λ a. gives (f a)) ≡ refused number place → first ≡ refused number place
+unfolding and-then
+refused-first (gives a) f e = not-both (sym e)
+refused-first (refused number place) f e = cc
+
 -- Both of two tests
 pub both : (a b : Bool) → (a && b) ≡ true → (a ≡ true) × (b ≡ true)
 both true b e = (refl, e)

@@ -27,7 +27,7 @@ use Rattle.compile.specs.Compilation.{acomp, bcomp, ccomp}
 use Rattle.compile.specs.Table.{member, once, vars, addr-of, entries, times, once-each}
 use Rattle.compile.specs.Calls.{compile-tests, compile}
 use Rattle.fitting.specs.Loading.{put, fill, got, read-back}
-use Rattle.fitting.specs.Calls.{pod-tests, load, read-back-call}
+use Rattle.fitting.specs.Calls.{table-tests, pod-tests, load, read-back-call}
 use Rattle.fitting.specs.Rows.{fit, four-calls}
 use Rattle.fitting.specs.Cases.{cases, measured, by-rules, by-machine, Profiles, MemoryOfI, LoadDeclines}
 use Rattle.fitting.specs.Cases.{ReadBackDeclines}
@@ -48,11 +48,11 @@ unfolding cases measured by-rules by-machine zeros
     rename first-byte record-operand code-bytes operation name-of option-map is-zero record-of in-front records-from
     taken pop push held keep in-range next land jump act after run-at run machine-tests run-machine
     acomp bcomp ccomp member once vars addr-of entries times once-each compile-tests compile
-    put fill got read-back pod-tests load read-back-call call answered fit four-calls
+    put fill got read-back table-tests pod-tests load read-back-call call answered fit four-calls
 profiles = (refl, refl)
 
 pub load-declines : LoadDeclines
-unfolding settle times once-each put fill pod-tests load
+unfolding and-then settle times once-each put fill table-tests pod-tests load
 load-declines = record {
   eight-store = refl;
   eight-table = refl;
@@ -67,7 +67,7 @@ load-declines = record {
 }
 
 pub read-back-declines : ReadBackDeclines
-unfolding settle times once-each got read-back pod-tests read-back-call
+unfolding and-then settle times once-each got read-back table-tests pod-tests read-back-call
 read-back-declines = record {
   eight-store = refl;
   eight-table = refl;

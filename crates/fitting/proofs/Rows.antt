@@ -6,14 +6,13 @@ use native.Mathlib.Omega.{arith}
 use mathlib.Core.Bool.{true}
 use mathlib.Core.List.{List}
 use lib.IntN.{ℤ}
-use lib.ListN.{length, take, length-set}
+use lib.ListN.{length, take}
 use borrow.Author.Tests.{eq-eqb, le-leb}
 use Rattle.base.specs.Acts.{give}
 use Rattle.base.specs.Answers.{Answer, gives, and-then, settle}
 use Rattle.base.specs.Rows.{answered}
 use Rattle.base.specs.Ends.{Result, Ran, report}
 use Rattle.base.proofs.Rows.{goes-on}
-use Rattle.word.specs.Sums.{sum32}
 use Rattle.text.specs.Syntax.{Command}
 use Rattle.text.specs.Reading.{read-text}
 use Rattle.text.specs.Encoding.{Within}
@@ -24,9 +23,8 @@ use Rattle.record.specs.Records.{MachineCode}
 use Rattle.record.specs.Bytes.{machine-kind, over}
 use Rattle.record.proofs.Written.{whole-written, written}
 use Rattle.machine.specs.Machine.{Machine}
-use Rattle.machine.specs.Memories.{machine-cells}
 use Rattle.machine.specs.Calls.{memory-fits, machine-tests, machine-run, run-machine}
-use Rattle.machine.proofs.Inside.{kept}
+use Rattle.machine.proofs.Calls.{machine-runs, keeps-length}
 use Rattle.compile.specs.Compilation.{ccomp}
 use Rattle.compile.specs.Table.{to-m-prog, table}
 use Rattle.compile.specs.Calls.{machine-bytes, Compiled}
@@ -34,7 +32,7 @@ use Rattle.compile.proofs.Tables.{tables, named-variables}
 use Rattle.compile.proofs.Codes.{codes}
 use Rattle.compile.proofs.Calls.{compiled, machine-count, machine-length, taken-over}
 use Rattle.fitting.specs.Loading.{loaded, read-back}
-use Rattle.fitting.specs.Calls.{pod-tests, load, read-back-call}
+use Rattle.fitting.specs.Calls.{table-tests, pod-tests, load, read-back-call}
 use Rattle.fitting.specs.Rows.{Lent, buffers, fit, four-calls}
 use Rattle.fitting.specs.Demand3.{Ready}
 use Rattle.fitting.proofs.Loading.{length-loaded}
@@ -64,14 +62,17 @@ module _ (text : List ℕ) (c : Command) (read : read-text text ≡ gives c) (w 
     eq-eqb (length m) (D + 1 + n) h,
   )
 
-  pod-tested : (m : List ℤ) → length m ≡ D + 1 + n → pod-tests t store D m ≡ gives n
-  unfolding pod-tests
-  pod-tested m h = rw (tables c (w .valid) .passes) (simp (
+  table-tested : table-tests t store ≡ gives n
+  unfolding table-tests
+  table-tested = rw (tables c (w .valid) .passes) (simp (
     eq-eqb (length t) 64 (tables c (w .valid) .long),
     eq-eqb (length store) 64 (ready .store-cells),
     named-variables c (w .valid) .in-table,
-    fits m h,
   ))
+
+  pod-tested : (m : List ℤ) → length m ≡ D + 1 + n → pod-tests t store D m ≡ gives n
+  unfolding pod-tests and-then
+  pod-tested m h = rw table-tested (simp (fits m h))
 
   abbrev ready-memory : List ℤ
   ready-memory = loaded t D n store
@@ -84,13 +85,16 @@ module _ (text : List ℕ) (c : Command) (read : read-text text ≡ gives c) (w 
   abbrev ran : Result (Machine (List ℤ))
   ran = machine-run P ready-memory D budget
 
-  runs : run-machine (machine-bytes c) ready-memory D n budget ≡ (gives (report budget ran), ran .leaves .memory)
-  unfolding run-machine machine-tests settle and-then
-  runs = simp (
+  tested : machine-tests (machine-bytes c) ready-memory D n ≡ gives P
+  unfolding machine-tests and-then
+  tested = simp (
     whole-written (machine-kind n) P (omega (arith, machine-count c, few-records)),
     written .in-machine n P (codes c (w .valid) few-records .in-machine),
     fits ready-memory (length-loaded t D n store),
   )
+
+  runs : run-machine (machine-bytes c) ready-memory D n budget ≡ (gives (report budget ran), ran .leaves .memory)
+  runs = sym (machine-runs (machine-bytes c) ready-memory D n budget tested)
 
   runs-written :
       run-machine (take (5 * records c) (over (machine-bytes c) (lent .code))) ready-memory D n budget
@@ -102,10 +106,7 @@ module _ (text : List ℕ) (c : Command) (read : read-text text ≡ gives c) (w 
 
   -- a run keeps the memory's length
   pub same-length : length (ran .leaves .memory) ≡ D + 1 + n
-  same-length =
-      kept sum32 D (machine-cells D) P (λ m. length m ≡ D + 1 + n)
-      (record { saved = λ m a z h. length-set m _ z ∙ h; poked = λ m i z l h. length-set m _ z ∙ h })
-      budget ready-memory (length-loaded t D n store)
+  same-length = keeps-length P ready-memory D budget ∙ length-loaded t D n store
 
   reads : read-back-call t (ran .leaves .memory) D store ≡ (gives n, read-back t D store (ran .leaves .memory))
   unfolding read-back-call settle

@@ -5,19 +5,27 @@ use mathlib.Core.List.{List}
 use lib.Dec.{eqb}
 use lib.IntN.{ℤ}
 use lib.ListN.{length}
-use Rattle.base.specs.Answers.{Answer, gives, unless_refuse_at_else_, settle}
+use Rattle.base.specs.Answers.{Answer, gives, unless_refuse_at_else_, and-then, settle}
 use Rattle.source.specs.Rules.{Store}
 use Rattle.machine.specs.Calls.{memory-fits}
 use Rattle.compile.specs.Table.{named-in, is-table}
 use Rattle.fitting.specs.Loading.{loaded, read-back}
 
--- Refusals of both: 8 ("store not 64 cells, or table not 64 bytes"), 12, 11. n is the table's
-unfoldable pub pod-tests : List ℕ → Store → ℕ → List ℤ → Answer ℕ
-pod-tests t store D memory =
+-- A table and a store: 8 ("store not 64 cells, or table not 64 bytes"), 12. "A call with a table takes n from it"
+unfoldable pub table-tests : List ℕ → Store → Answer ℕ
+table-tests t store =
     unless eqb (length t) 64 && eqb (length store) 64 refuse 8 at 0 else
     unless is-table t refuse 12 at 0 else
-    unless memory-fits D (named-in t) memory refuse 11 at 0 else
     gives (named-in t)
+
+-- ---- load, read_back
+
+-- Refusals of both: 8, 12, 11
+unfoldable pub pod-tests : List ℕ → Store → ℕ → List ℤ → Answer ℕ
+pod-tests t store D memory =
+    and-then (table-tests t store) (λ n.
+    unless memory-fits D n memory refuse 11 at 0 else
+    gives n)
 
 -- n; the memory as it is left, "whatever the memory held"
 unfoldable pub load : List ℕ → Store → ℕ → List ℤ → Answer ℕ × List ℤ

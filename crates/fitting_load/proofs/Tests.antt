@@ -8,19 +8,20 @@ use lib.Dec.{eqb, leb}
 use lib.IntN.{ℤ, pos}
 use lib.ListN.{length, replicate}
 use borrow.Author.Tests.{eqb-true, leb-true, le-leb, lt-leb, eq-eqb, ne-eqb}
-use Rattle.base.specs.Answers.{Answer, gives, refused, unless_refuse_at_else_}
+use Rattle.base.specs.Answers.{Answer, gives, refused, unless_refuse_at_else_, and-then}
 use Rattle.base.specs.Code.{count-answer}
 use Rattle.base.specs.declared.Count.{Count}
 use Rattle.source.specs.Rules.{Store}
 use Rattle.machine.specs.Calls.{memory-fits}
 use Rattle.compile.specs.Table.{named-in, is-table}
 use Rattle.fitting.specs.Loading.{fill, loaded}
-use Rattle.fitting.specs.Calls.{pod-tests}
+use Rattle.fitting.specs.Calls.{table-tests, pod-tests}
 use Rattle.compile_table.proofs.Passing.{entries-most}
-use Rattle.base.proofs.Settled.{unless-passed, both}
+use Rattle.base.proofs.Answers.{gives-one}
+use Rattle.base.proofs.Settled.{unless-passed, needed, both}
 use Rattle.fitting_load.specs.Fits.{Fits}
 
--- ---- The answer of each of the code's tests
+-- ---- A table and a store
 
 -- A table of 64 bytes that passes and names n variables, and 64 cells
 pub record Tabled (t : List ℕ) (store : Store) (n : ℕ) : Type 0 where
@@ -29,41 +30,65 @@ pub record Tabled (t : List ℕ) (store : Store) (n : ℕ) : Type 0 where
   pub passes : is-table t ≡ true
   pub count : n ≡ named-in t
 
-module _ (t : List ℕ) (store : Store) (D : ℕ) (memory : List ℤ) where
-  pub no-bytes : (length t ≡ 64 → ⊥) → refused 8 0 ≡ pod-tests t store D memory
-  unfolding pod-tests
+module _ (t : List ℕ) (store : Store) where
+  -- the answer of each of the code's tests,
+  pub no-bytes : (length t ≡ 64 → ⊥) → refused 8 0 ≡ table-tests t store
+  unfolding table-tests
   no-bytes h = simp (ne-eqb (length t) 64 h)
 
-  pub no-cells : length t ≡ 64 → (length store ≡ 64 → ⊥) → refused 8 0 ≡ pod-tests t store D memory
-  unfolding pod-tests
+  pub no-cells : length t ≡ 64 → (length store ≡ 64 → ⊥) → refused 8 0 ≡ table-tests t store
+  unfolding table-tests
   no-cells e h = simp (eq-eqb (length t) 64 e, ne-eqb (length store) 64 h)
 
-  pub no-table : length t ≡ 64 → length store ≡ 64 → is-table t ≡ false → refused 12 0 ≡ pod-tests t store D memory
-  unfolding pod-tests
+  pub no-table : length t ≡ 64 → length store ≡ 64 → is-table t ≡ false → refused 12 0 ≡ table-tests t store
+  unfolding table-tests
   no-table e f h = simp (eq-eqb (length t) 64 e, eq-eqb (length store) 64 f, h)
 
-  module _ {n : ℕ} (x : Tabled t store n) where
+  pub named : {n : ℕ} → Tabled t store n → gives n ≡ table-tests t store
+  unfolding table-tests
+  named x =
+      ap gives (x .count)
+      ∙ sym (simp (eq-eqb (length t) 64 (x .bytes), eq-eqb (length store) 64 (x .cells), x .passes))
+
+  -- and what holds where it is n
+  pub tabled : {n : ℕ} → table-tests t store ≡ gives n → Tabled t store n
+  unfolding table-tests
+  tabled e =
+      let sized = unless-passed (eqb (length t) 64 && eqb (length store) 64) 8 0 _ e in
+      let table = unless-passed (is-table t) 12 0 _ (sized .1) in
+      let sizes = both (eqb (length t) 64) (eqb (length store) 64) (sized .0) in
+      record {
+        bytes = eqb-true (length t) 64 (sizes .0);
+        cells = eqb-true (length store) 64 (sizes .1);
+        passes = table .0;
+        count = sym (gives-one _ _ (table .1));
+      }
+
+-- ---- And a memory
+
+module _ (t : List ℕ) (store : Store) (D : ℕ) (memory : List ℤ) where
+  pub no-names : {number place : ℕ} → table-tests t store ≡ refused number place
+      → refused number place ≡ pod-tests t store D memory
+  unfolding pod-tests and-then
+  no-names e = rw e
+
+  module _ {n : ℕ} (e : table-tests t store ≡ gives n) where
     -- With a table that passes 11 alone is left.
-    left : pod-tests t store D memory ≡ unless memory-fits D (named-in t) memory refuse 11 at 0 else gives (named-in t)
-    unfolding pod-tests
-    left = simp (eq-eqb (length t) 64 (x .bytes), eq-eqb (length store) 64 (x .cells), x .passes)
+    left : pod-tests t store D memory ≡ unless memory-fits D n memory refuse 11 at 0 else gives n
+    unfolding pod-tests and-then
+    left = rw e
+
+    few : leb n 64 ≡ true
+    few = let x = tabled t store e in le-leb n 64 (omega (arith, x .bytes, x .count))
 
     pub too-deep : 64 < D → refused 11 0 ≡ pod-tests t store D memory
     too-deep h = sym (left ∙ simp (lt-leb D 64 h))
 
-    few : leb (named-in t) 64 ≡ true
-    few = le-leb (named-in t) 64 (omega (arith, x .bytes))
-
     pub no-room : D ≤ 64 → (length memory ≡ D + 1 + n → ⊥) → refused 11 0 ≡ pod-tests t store D memory
-    no-room h k =
-        sym (left
-        ∙ simp (le-leb D 64 h, few, ne-eqb (length memory) (D + 1 + named-in t) (λ e. k (omega (arith, x .count)))))
+    no-room h k = sym (left ∙ simp (le-leb D 64 h, few, ne-eqb (length memory) (D + 1 + n) k))
 
     pub accepts : D ≤ 64 → length memory ≡ D + 1 + n → gives n ≡ pod-tests t store D memory
-    accepts h k =
-        ap gives (x .count)
-        ∙ sym (left
-        ∙ simp (le-leb D 64 h, few, eq-eqb (length memory) (D + 1 + named-in t) (omega (arith, x .count))))
+    accepts h k = sym (left ∙ simp (le-leb D 64 h, few, eq-eqb (length memory) (D + 1 + n) k))
 
 -- ---- What holds where the answer is n
 
@@ -72,7 +97,7 @@ pub answers : {tests : Answer ℕ} {x y : Count} → count-answer x ≡ tests �
 answers tested e = sym tested ∙ ap count-answer e
 
 pub record Passed (t : List ℕ) (store : Store) (D : ℕ) (memory : List ℤ) (n : ℕ) : Type 0 where
-  pub tabled : Tabled t store n
+  pub tables : Tabled t store n
   pub deep : D ≤ 64
   pub room : length memory ≡ D + 1 + n
 
@@ -80,22 +105,15 @@ pub passed : (t : List ℕ) (store : Store) (D : ℕ) (memory : List ℤ) {n : �
     → Passed t store D memory n
 unfolding pod-tests
 passed t store D memory {n} e =
-    let sized = unless-passed (eqb (length t) 64 && eqb (length store) 64) 8 0 _ e in
-    let table = unless-passed (is-table t) 12 0 _ (sized .1) in
-    let fits = unless-passed (memory-fits D (named-in t) memory) 11 0 _ (table .1) in
-    let sizes = both (eqb (length t) 64) (eqb (length store) 64) (sized .0) in
-    let deep = both (leb D 64) (leb (named-in t) 64 && eqb (length memory) (D + 1 + named-in t)) (fits .0) in
-    let room = both (leb (named-in t) 64) (eqb (length memory) (D + 1 + named-in t)) (deep .1) in
-    let same : n ≡ named-in t = cc (fits .1) in
+    let x = needed (table-tests t store) _ e in
+    let fits = unless-passed (memory-fits D (x .value) memory) 11 0 _ (x .then-gives) in
+    let deep = both (leb D 64) _ (fits .0) in
+    let room = both (leb (x .value) 64) _ (deep .1) in
+    let same : x .value ≡ n = gives-one _ _ (fits .1) in
     record {
-      tabled = record {
-        bytes = eqb-true (length t) 64 (sizes .0);
-        cells = eqb-true (length store) 64 (sizes .1);
-        passes = table .0;
-        count = same;
-      };
+      tables = tabled t store (x .given ∙ ap gives same);
       deep = leb-true D 64 (deep .0);
-      room = eqb-true (length memory) (D + 1 + named-in t) (room .1) ∙ ap (λ (k : ℕ). D + 1 + k) (sym same);
+      room = eqb-true (length memory) (D + 1 + x .value) (room .1) ∙ ap (λ (k : ℕ). D + 1 + k) same;
     }
 
 module _ {t : List ℕ} {store : Store} {D : ℕ} {memory : List ℤ} {n : ℕ} (p : Passed t store D memory n) where
@@ -103,10 +121,10 @@ module _ {t : List ℕ} {store : Store} {D : ℕ} {memory : List ℤ} {n : ℕ} 
   pub fits : {cells : List ℤ} → length cells ≡ length memory → Fits t store D cells
   fits e =
       record {
-        entries = p .tabled .bytes;
-        variables = p .tabled .cells;
+        entries = p .tables .bytes;
+        variables = p .tables .cells;
         deep = p .deep;
-        inside = λ v. omega (arith, p .room, p .tabled .count, entries-most t (p .tabled .passes) v);
+        inside = λ v. omega (arith, p .room, p .tables .count, entries-most t (p .tables .passes) v);
       }
 
   -- Zeros, and then each named variable at its address: the memory is loaded.

@@ -12,10 +12,9 @@ ghost use Rattle.fitting.specs.Loading as Loading;
 ghost use Rattle.fitting.specs.Calls as Calls;
 ghost use Rattle.fitting_load.specs.Fits.{Fits};
 
-// The tests of both calls in their order: 8, 12, 11. Gives n.
-pub fn test(table: &[u8], store: &[i32], depth: u64, memory: &[i32]) -> Count
-    ensures { λ r. ⌜ count-answer r
-        ≡ Calls.pod-tests (now (table .entry)) (now (store .entry)) depth (now (memory .entry)) ⌝ }
+// The tests of a table and a store, in their order: 8, 12. Gives the table's n.
+pub fn test_table(table: &[u8], store: &[i32]) -> Count
+    ensures { λ r. ⌜ count-answer r ≡ Calls.table-tests (now (table .entry)) (now (store .entry)) ⌝ }
 {
     if table.len() != compile::TABLE_BYTES {
         return Count::decline(8, 0);
@@ -25,7 +24,18 @@ pub fn test(table: &[u8], store: &[i32], depth: u64, memory: &[i32]) -> Count
     }
     match compile_table::names(table) {
         Named::NoTable => Count::decline(12, 0),
-        Named::Cells(n) => {
+        Named::Cells(n) => Count::Gives(n),
+    }
+}
+
+// The tests of both calls in their order: 8, 12, 11. Gives n.
+pub fn test(table: &[u8], store: &[i32], depth: u64, memory: &[i32]) -> Count
+    ensures { λ r. ⌜ count-answer r
+        ≡ Calls.pod-tests (now (table .entry)) (now (store .entry)) depth (now (memory .entry)) ⌝ }
+{
+    match test_table(table, store) {
+        Count::Refused(refusal) => Count::Refused(refusal),
+        Count::Gives(n) => {
             if (Machine::STACK_CELLS as u64) < depth {
                 return Count::decline(11, 0);
             }
@@ -66,7 +76,7 @@ fn to_memory(table: &[u8], store: &[i32], depth: usize, memory: &mut [i32])
 }
 
 // Each named variable from its address.
-fn to_store(table: &[u8], memory: &[i32], depth: usize, store: &mut [i32])
+pub fn to_store(table: &[u8], memory: &[i32], depth: usize, store: &mut [i32])
     requires { ⌜ Fits (now table) (now store) depth (now memory) ⌝ }
     ensures { λ _. ⌜ now (store .exit)
         ≡ Loading.read-back (now (table .entry)) depth (now (store .entry)) (now (memory .entry)) ⌝ }

@@ -8,7 +8,7 @@ use native.Mathlib.Omega.{arith}
 use borrow.Author.Tests.{leb-true, eqb-true}
 use lib.Dec.{eqb, leb}
 use lib.IntN.{ℤ}
-use lib.ListN.{length}
+use lib.ListN.{length, length-set}
 use Rattle.base.specs.Answers.{Answer, gives, refused, unless_refuse_at_else_, and-then}
 use Rattle.base.specs.Ends.{report}
 use Rattle.base.specs.Code.{count-answer}
@@ -16,15 +16,17 @@ use Rattle.base.specs.declared.Refusal.{Refusal}
 use Rattle.base.specs.declared.Count.{Count}
 use Rattle.base.specs.declared.Count.the-variants.{Refused, Gives}
 use Rattle.base.proofs.Answers.{gives-one}
-use Rattle.base.proofs.Settled.{unless-passed, needed, both, settled, declined}
+use Rattle.base.proofs.Settled.{unless-passed, needed, refused-first, both, settled, declined}
+use Rattle.word.specs.Sums.{sum32}
 use Rattle.record.specs.Records.{AssemblyCode, MachineCode}
 use Rattle.record.specs.Bytes.{Kind, assembly-kind, machine-kind}
 use Rattle.record.specs.Bytes.{whole-records, record-count, records-from, records-of}
 use Rattle.record.proofs.Tested.{few-records}
 use Rattle.record.proofs.Tested.{records-length}
-use Rattle.machine.specs.Memories.{Assembly}
+use Rattle.machine.specs.Memories.{Assembly, machine-cells}
 use Rattle.machine.specs.Calls.{assembly-tests, assembly-run, run-assembly}
 use Rattle.machine.specs.Calls.{memory-fits, machine-tests, machine-run, run-machine}
+use Rattle.machine.proofs.Inside.{kept}
 
 -- ---- The number of records that tests give
 
@@ -41,12 +43,7 @@ counted tests is e =
 -- where it is a refusal, it is theirs.
 pub refused-by : {A : Type 0} {r : Count} {why : Refusal} (tests : Answer (List A)) → r ≡ Refused why
     → count-answer r ≡ number-given tests → tests ≡ refused (why .number) (why .place)
-refused-by tests is e = by tests (sym e ∙ ap count-answer is)
-  where
-    by : {A : Type 0} {number place : ℕ} (tests : Answer (List A)) → number-given tests ≡ refused number place
-        → tests ≡ refused number place
-    by (gives P) e = unfold and-then in (let no : _≡_ {A = ℕ} 0 1 = cc in absurd (omega arith))
-    by (refused number place) e = unfold and-then in (cc)
+refused-by tests is e = refused-first tests length (sym e ∙ ap count-answer is)
 
 -- What is found of code whose tests give `last` records
 pub record CodeFound {Name : Type 0} (k : Kind Name) (code : List ℕ) (P : _) (last : ℕ) : Type 0 where
@@ -137,24 +134,27 @@ module _ (code : List ℕ) (m : List ℤ) (D n : ℕ) where
     pub small : n ≤ 64
     pub cells-are : length m ≡ D + 1 + n
 
-  pub machine-found : {r : Count} {last : ℕ} → r ≡ Gives last
-      → count-answer r ≡ number-given (machine-tests code m D n) → MachineFound last
+  pub machine-passed : {P : MachineCode} {last : ℕ} → machine-tests code m D n ≡ gives P → length P ≡ last
+      → MachineFound last
   unfolding machine-tests
-  machine-found is e =
-      let c = counted (machine-tests code m D n) is e in
-      let w = unless-passed (whole-records code) 9 0 _ (c .1) in
+  machine-passed {P} e all =
+      let w = unless-passed (whole-records code) 9 0 _ e in
       let n′ = needed (records-of (machine-kind n) code) _ (w .1) in
       let f = unless-passed (memory-fits D n m) 11 0 _ (n′ .then-gives) in
       let deep = both (leb D 64) _ (f .0) in
       let small = both (leb n 64) _ (deep .1) in
       record {
-        records = c .0;
-        answer = c .1;
-        code-is = code-found (machine-kind n) code (w .0) (n′ .given ∙ f .1) (c .2);
+        records = P;
+        answer = e;
+        code-is = code-found (machine-kind n) code (w .0) (n′ .given ∙ f .1) all;
         deep = leb-true D 64 (deep .0);
         small = leb-true n 64 (small .0);
         cells-are = eqb-true (length m) (D + 1 + n) (small .1);
       }
+
+  pub machine-found : {r : Count} {last : ℕ} → r ≡ Gives last
+      → count-answer r ≡ number-given (machine-tests code m D n) → MachineFound last
+  machine-found is e = let c = counted (machine-tests code m D n) is e in machine-passed (c .1) (c .2)
 
   pub machine-declines : (budget : ℕ) {r : Count} {why : Refusal} → r ≡ Refused why
       → count-answer r ≡ number-given (machine-tests code m D n)
@@ -167,3 +167,11 @@ module _ (code : List ℕ) (m : List ℤ) (D n : ℕ) where
       (gives (report budget r), r .leaves .memory) ≡ run-machine code m D n budget
   unfolding run-machine
   machine-runs budget e = settled (machine-tests code m D n) _ _ m e refl
+
+-- A run keeps the memory's length.
+pub keeps-length : (P : MachineCode) (m : List ℤ) (D budget : ℕ)
+    → length (machine-run P m D budget .leaves .memory) ≡ length m
+keeps-length P m D budget =
+    kept sum32 D (machine-cells D) P (λ left. length left ≡ length m)
+    (record { saved = λ left a z h. length-set left _ z ∙ h; poked = λ left i z l h. length-set left _ z ∙ h })
+    budget m refl

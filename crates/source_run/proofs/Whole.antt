@@ -1,6 +1,6 @@
 -- The call `run_source`: its tests, from what reading comes to; its run, from what the text's command came to at the
 -- text's start; and that a text in its buffer runs as the text does.
-use mathlib.Core.Path.{_≡_, refl, sym, ap, subst, _∙_}
+use mathlib.Core.Path.{_≡_, sym, ap, subst, _∙_}
 use Prim.Native.Nat.{ℕ, _≤_}
 use native.Mathlib.Nat.{le-refl}
 use native.Mathlib.Omega.{arith}
@@ -9,10 +9,10 @@ use lib.Dec.{eqb}
 use lib.ListN.{length, drop, length-append, length-drop}
 use borrow.Author.Tests.{eq-eqb, eqb-true, ne-eqb}
 use Rattle.base.specs.Acts.{ok}
-use Rattle.base.specs.Answers.{Answer, gives, refused, and-then, settle}
+use Rattle.base.specs.Answers.{Answer, gives, refused, and-then}
 use Rattle.base.specs.Ends.{Ran, report}
 use Rattle.base.proofs.Answers.{gives-one}
-use Rattle.base.proofs.Settled.{needed, unless-passed}
+use Rattle.base.proofs.Settled.{needed, unless-passed, refused-first, declined}
 use Rattle.word.specs.Sums.{sum32}
 use Rattle.text.specs.Syntax.{Command}
 use Rattle.text.specs.Reading.{command, read-text}
@@ -55,16 +55,8 @@ module _ (text : List ℕ) (store : Store) where
 
   -- and what they say: the call declines,
   pub declines : (budget : ℕ) {k p : ℕ} → refused k p ≡ tests → (refused k p, store) ≡ run-source text store budget
-  unfolding run-source settle and-then
-  declines budget {k} {p} e = by (source-tests text store) refl e
-    where
-      by : (a : Answer Command) → source-tests text store ≡ a → refused k p ≡ and-then a (λ c. gives (sizes c))
-          → (refused k p, store) ≡ run-source text store budget
-      by (gives c) f e = absurd (let no : _≡_ {A = ℕ} 0 1 = cc in omega arith)
-      by (refused n q) f e =
-          let number : k ≡ n = cc in
-          let place : p ≡ q = cc in
-          rw (f, number, place)
+  unfolding run-source
+  declines budget e = declined (source-tests text store) _ _ store (refused-first _ sizes (sym e))
 
   -- or they are passed: the text is accepted and the store has its cells.
   pub accepted : {s : Sizes} → gives s ≡ tests → (c : Command) × (source-tests text store ≡ gives c)

@@ -1,12 +1,8 @@
 -- The call: what the tests refuse, the call refuses; where they give a number of records, the run of these from a
--- fresh machine is the definition's run.
-use mathlib.Core.Path.{sym, subst, _∙_}
+-- fresh machine is the definition's run (Fresh).
 use borrow.Author.Needs.{needs}
-use Rattle.machine.specs.Memories.{machine-cells}
-use Rattle.machine.proofs.Calls.{machine-found, machine-declines, machine-runs}
-use Rattle.machine_step.specs.declared.Machine.{Machine}
-use Rattle.machine_step.proofs.Running.{told}
-use Rattle.machine_run.specs.Runs.{Starts}
+use Rattle.machine.proofs.Calls.{machine-found, machine-declines}
+use Rattle.machine_run.proofs.Fresh.{starts, passes, tells}
 use Rattle.machine_run.proofs.run_machine.Statement.{statement}
 use Rattle.machine_run.proofs.run_machine.Tie as tie
 
@@ -19,24 +15,8 @@ finish-requires c κs =
     let s = a .args in
     let f = machine-found (s .code .now) (s .memory .now) (s .depth) (s .cells)
     (arm .last .given .1) (t .test .ensures) in (
-      subst
-          (λ (m : Machine). Starts m (s .depth) (arm .last .given .0 .0) (s .budget))
-          (sym (made .fresh .ensures))
-          (record {
-            few = f .code-is .few;
-            placed = search needs;
-            held = search needs;
-            marked = search needs;
-            used = search needs;
-          }),
-      record {
-        n = s .cells;
-        records = f .records;
-        given = f .code-is .given;
-        small = f .small;
-        whole = f .code-is .whole;
-        cells-are = f .cells-are;
-      },
+      starts (s .code .now) (s .memory .now) (s .depth) (s .cells) (s .budget) f (made .fresh .ensures),
+      passes (s .code .now) (s .memory .now) (s .depth) (s .cells) (s .budget) f (made .fresh .ensures),
     )
 
 declined : tie.Need-returns
@@ -58,10 +38,8 @@ ran c =
     let s = a .args in
     let f = machine-found (s .code .now) (s .memory .now) (s .depth) (s .cells)
     (arm .last .given .1) (t .test .ensures) in
-    told (s .depth) (machine-cells (s .depth)) (f .records) (s .budget) (s .memory .now) (run .finish .result) _
-    (made .fresh .ensures) (c .answer .ensures) (run .finish .ensures .1)
-    (run .finish .ensures .0 (s .cells) (f .records) (f .cells-are) (f .code-is .given))
-    ∙ machine-runs (s .code .now) (s .memory .now) (s .depth) (s .cells) (s .budget) (f .answer)
+    tells (s .code .now) (s .memory .now) (s .depth) (s .cells) (s .budget) f (made .fresh .ensures)
+    (run .finish .result) _ (c .answer .ensures) (run .finish .ensures .1) (run .finish .ensures .0)
 
 pub run-machine-spec : {M : Type 1} → statement M
 run-machine-spec =
