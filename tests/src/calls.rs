@@ -64,6 +64,29 @@ mod exported {
             store: *mut i32,
             store_len: usize,
         ) -> u64;
+        pub fn probe_preview_source(
+            text: *const u8,
+            text_len: usize,
+            store: *const i32,
+            store_len: usize,
+            budget: u32,
+            out: *mut i32,
+            out_len: usize,
+        ) -> u64;
+        pub fn probe_preview_machine(
+            code: *const u8,
+            code_len: usize,
+            memory: *const i32,
+            memory_len: usize,
+            depth: u64,
+            table: *const u8,
+            table_len: usize,
+            store: *const i32,
+            store_len: usize,
+            budget: u32,
+            out: *mut i32,
+            out_len: usize,
+        ) -> u64;
     }
 }
 
@@ -188,4 +211,42 @@ pub fn read_back(table: &[u8], memory: &[i32], depth: u64, store: &mut [i32]) ->
         exported::probe_read_back(table_at, table.len(), memory_at, memory.len(), depth, store_at, store.len())
     };
     answer(packed, count)
+}
+
+pub fn preview_source(text: &[u8], store: &[i32], budget: u32, out: &mut [i32]) -> Answer<Ran> {
+    let (text_at, store_at, out_at) = (text.as_ptr(), store.as_ptr(), out.as_mut_ptr());
+    let packed = unsafe {
+        exported::probe_preview_source(text_at, text.len(), store_at, store.len(), budget, out_at, out.len())
+    };
+    answer(packed, ran)
+}
+
+pub fn preview_machine(
+    code: &[u8],
+    memory: &[i32],
+    depth: u64,
+    table: &[u8],
+    store: &[i32],
+    budget: u32,
+    out: &mut [i32],
+) -> Answer<Ran> {
+    let (code_at, memory_at, table_at) = (code.as_ptr(), memory.as_ptr(), table.as_ptr());
+    let (store_at, out_at) = (store.as_ptr(), out.as_mut_ptr());
+    let packed = unsafe {
+        exported::probe_preview_machine(
+            code_at,
+            code.len(),
+            memory_at,
+            memory.len(),
+            depth,
+            table_at,
+            table.len(),
+            store_at,
+            store.len(),
+            budget,
+            out_at,
+            out.len(),
+        )
+    };
+    answer(packed, ran)
 }

@@ -35,3 +35,11 @@ pub fn ran(result: Result<model::Ran, model::Refusal>) -> Answer<Ran> {
         Ran { end, count: ran.count, mark: ran.mark as u8 }
     })
 }
+
+/// A preview's answer, and what the cells lent for its store then hold.
+pub fn preview(result: Result<(model::Ran, Vec<i32>), model::Refusal>, out: &[i32]) -> (Answer<Ran>, Vec<i32>) {
+    match result {
+        Ok((told, store)) => (ran(Ok(told)), store),
+        Err(refusal) => (ran(Err(refusal)), out.to_vec()),
+    }
+}

@@ -605,11 +605,16 @@ pub fn run_machine(code: &[u8], memory: &mut [i32], depth: u64, n: u64, budget: 
 
 // ---- Loading, reading back, going back
 
-fn loadable(table: &[u8], store: &[i32], depth: u64, memory: &[i32]) -> Result<usize, Refusal> {
+/// A table and a store, for a call that takes n from the table: 8, 12.
+fn cells_named(table: &[u8], store: &[i32]) -> Result<usize, Refusal> {
     if table.len() != 64 || store.len() != 64 {
         return Err(Refusal(8, 0));
     }
-    let n = tested(table)?;
+    tested(table)
+}
+
+fn loadable(table: &[u8], store: &[i32], depth: u64, memory: &[i32]) -> Result<usize, Refusal> {
+    let n = cells_named(table, store)?;
     fits(depth, n as u64, memory)?;
     Ok(n)
 }
@@ -642,6 +647,31 @@ pub fn go_back(code: &[u8], table: &[u8], out: &mut [u8]) -> Result<usize, Refus
     let assembly: Vec<Record> = machine.iter().map(|record| record.renamed(variable)).collect();
     write(&bytes(&assembly, 0x40), out)?;
     Ok(assembly.len())
+}
+
+// ---- Previews (W3)
+
+/// What the source run tells and would have left on a copy of the store.
+pub fn preview_source(text: &[u8], store: &[i32], budget: u32) -> Result<(Ran, Vec<i32>), Refusal> {
+    let mut copy = store.to_vec();
+    Ok((run_source(text, &mut copy, budget)?, copy))
+}
+
+/// What the loaded machine's run tells on a copy of its memory, and what reading back leaves of a copy of the store.
+pub fn preview_machine(
+    code: &[u8],
+    memory: &[i32],
+    depth: u64,
+    table: &[u8],
+    store: &[i32],
+    budget: u32,
+) -> Result<(Ran, Vec<i32>), Refusal> {
+    whole(code)?;
+    let n = cells_named(table, store)?;
+    let (mut cells, mut copy) = (memory.to_vec(), store.to_vec());
+    let ran = run_machine(code, &mut cells, depth, n as u64, budget)?;
+    read_back(table, &cells, depth, &mut copy)?;
+    Ok((ran, copy))
 }
 
 // ---- The printing program

@@ -71,3 +71,19 @@ fn loading_reading_back_going_back() {
         assert_eq!(out, call.bytes_after("out"), "line {}", call.line);
     }
 }
+
+#[test]
+fn previews() {
+    for call in vectors::calls("preview_source") {
+        let got = model::preview_source(&call.bytes("text"), &call.cells("store"), call.budget());
+        let want = (call.ran(), call.cells_after("out"));
+        assert_eq!(matching::preview(got, &call.cells("out")), want, "line {}", call.line);
+    }
+    for call in vectors::calls("preview_machine") {
+        let (memory, store) = (call.cells("memory"), call.cells("store"));
+        let (code, table, depth) = (call.bytes("code"), call.bytes("table"), call.number("D"));
+        let got = model::preview_machine(&code, &memory, depth, &table, &store, call.budget());
+        let want = (call.ran(), call.cells_after("out"));
+        assert_eq!(matching::preview(got, &call.cells("out")), want, "line {}", call.line);
+    }
+}

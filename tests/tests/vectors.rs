@@ -1,6 +1,7 @@
 //! Every vector of the calls, on every lent buffer.
 
-use profile_tests::{calls, vectors};
+use profile_tests::calls::{self, Answer, Ran};
+use profile_tests::vectors::{self, Call};
 
 #[test]
 fn read() {
@@ -85,5 +86,33 @@ fn go_back() {
         let got = calls::go_back(&call.bytes("code"), &call.bytes("table"), &mut out);
         assert_eq!(got, call.count("records"), "line {}", call.line);
         assert_eq!(out, call.bytes_after("out"), "line {}", call.line);
+    }
+}
+
+/// A preview's store goes into `out`; the slices that it is lent stay.
+fn preview(call: &Call, got: Answer<Ran>, out: Vec<i32>, lent: &[(&str, Vec<i32>)]) {
+    assert_eq!(got, call.ran(), "line {}", call.line);
+    assert_eq!(out, call.cells_after("out"), "line {}", call.line);
+    for (name, cells) in lent {
+        assert_eq!(*cells, call.cells(name), "line {}", call.line);
+    }
+}
+
+#[test]
+fn preview_source() {
+    for call in vectors::calls("preview_source") {
+        let (store, mut out) = (call.cells("store"), call.cells("out"));
+        let got = calls::preview_source(&call.bytes("text"), &store, call.budget(), &mut out);
+        preview(&call, got, out, &[("store", store)]);
+    }
+}
+
+#[test]
+fn preview_machine() {
+    for call in vectors::calls("preview_machine") {
+        let (memory, store, mut out) = (call.cells("memory"), call.cells("store"), call.cells("out"));
+        let (code, table, depth) = (call.bytes("code"), call.bytes("table"), call.number("D"));
+        let got = calls::preview_machine(&code, &memory, depth, &table, &store, call.budget(), &mut out);
+        preview(&call, got, out, &[("memory", memory), ("store", store)]);
     }
 }

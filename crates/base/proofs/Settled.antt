@@ -2,9 +2,12 @@
 -- other, and leaves what it writes; one that declines leaves its buffers untouched.
 use mathlib.Core.Path.{_≡_, refl, sym, ap}
 use mathlib.Core.Bool.{Bool, true, false, _&&_}
+use mathlib.Core.List.{List}
+use lib.IntN.{ℤ, pos}
+use lib.ListN.{replicate}
 use Prim.Native.Nat.{ℕ}
 use native.Mathlib.Omega.{arith}
-use Rattle.base.specs.Answers.{Answer, gives, refused, unless_refuse_at_else_, and-then, settle}
+use Rattle.base.specs.Answers.{Answer, gives, refused, unless_refuse_at_else_, and-then, settle, previewed}
 use Rattle.base.proofs.Answers.{gives-one}
 
 -- What is refused is not given.
@@ -77,3 +80,22 @@ unfolding settle
 gave (gives a) result buffers old e =
     record { value = a; passed = refl; tells = gives-one _ _ (ap (λ x. x .0) e); leaves = ap (λ x. x .1) e }
 gave (refused number place) result buffers old e = not-both (sym (ap (λ x. x .0) e))
+
+-- ---- A preview, by what its tests gave
+
+module _ {A R : Type 0} (tests : Answer A) (on-a-copy : Answer R × List ℤ) where
+  pub preview-made : {a : A} → tests ≡ gives a → on-a-copy ≡ previewed tests on-a-copy
+  unfolding previewed
+  preview-made e = rw e
+
+  pub preview-declined : {number place : ℕ} → tests ≡ refused number place
+      → (refused number place, replicate 64 (pos 0)) ≡ previewed tests on-a-copy
+  unfolding previewed
+  preview-declined e = rw e
+
+-- One that gives has passed its tests.
+pub preview-gave : {A R : Type 0} (tests : Answer A) (on-a-copy : Answer R × List ℤ) {r : R} {s : List ℤ}
+    → previewed tests on-a-copy ≡ (gives r, s) → (a : A) × (tests ≡ gives a) × (on-a-copy ≡ (gives r, s))
+unfolding previewed
+preview-gave (gives a) on-a-copy e = (a, refl, e)
+preview-gave (refused number place) on-a-copy e = not-both (ap (λ x. x .0) e)

@@ -1,6 +1,9 @@
 -- What a public call answers, and the form of its refusals (document 01, "When a call declines").
 use Prim.Native.Nat.{ℕ}
 use mathlib.Core.Bool.{Bool, true, false}
+use mathlib.Core.List.{List}
+use lib.IntN.{ℤ, pos}
+use lib.ListN.{replicate}
 
 -- A call gives its result, or "the call gives number and place"
 pub data Answer (A : Type 0) : Type 0 where
@@ -27,3 +30,9 @@ and-then (refused number place) f = refused number place
 unfoldable pub settle : {A R B : Type 0} → Answer A → (A → R) → (A → B) → B → Answer R × B
 settle (gives a) result buffers old = (gives (result a), buffers a)
 settle (refused number place) result buffers old = (refused number place, old)
+
+-- A preview (document 02, W3). Once its tests are passed, it is what the calls that it previews give and leave "on a
+-- copy"; where it declines, its store is 64 zeros
+unfoldable pub previewed : {A R : Type 0} → Answer A → Answer R × List ℤ → Answer R × List ℤ
+previewed (gives a) on-a-copy = on-a-copy
+previewed (refused number place) on-a-copy = (refused number place, replicate 64 (pos 0))

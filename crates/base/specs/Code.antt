@@ -1,5 +1,7 @@
 -- What the code's answers say: document 01's number and place, or what the call gives.
 use Prim.Native.Nat.{ℕ}
+use mathlib.Core.List.{List}
+use lib.IntN.{ℤ}
 use Rattle.base.specs.Answers.{Answer, gives, refused}
 use Rattle.base.specs.Ends as Ends
 use Rattle.base.specs.Ends.{Ran, ran}
@@ -7,6 +9,7 @@ use Rattle.base.specs.declared.End.{End}
 use Rattle.base.specs.declared.End.the-variants.{Done, Spent, OutOfRange, Short, Full, Astray}
 use Rattle.base.specs.declared.Run.{Run}
 use Rattle.base.specs.declared.Run.the-variants.{Refused as RefusedRun, Ended}
+use Rattle.base.specs.declared.Preview.{Preview}
 use Rattle.base.specs.declared.Count.{Count}
 use Rattle.base.specs.declared.Count.the-variants.{Refused as RefusedCount, Gives}
 
@@ -22,6 +25,10 @@ end-of Astray = Ends.fault Ends.astray
 abbrev pub run-answer : Run → Answer Ran
 run-answer (RefusedRun r) = refused (r .number) (r .place)
 run-answer (Ended e count mark) = gives (ran (end-of e) count mark)
+
+-- A preview: its run, and its store
+abbrev pub preview-answer : Preview → Answer Ran × List ℤ
+preview-answer p = (run-answer (p .run), p .store)
 
 -- A count
 abbrev pub count-answer : Count → Answer ℕ

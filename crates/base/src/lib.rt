@@ -3,9 +3,10 @@
 ghost use mathlib.Core.Path.{_≡_};
 ghost use mathlib.Core.List.{_++_};
 ghost use Prim.Native.Nat.{_≤_};
-ghost use lib.ListN.{length, drop};
+ghost use lib.IntN.{pos};
+ghost use lib.ListN.{length, drop, replicate};
 ghost use Rattle.base.specs.Answers.{refused};
-ghost use Rattle.base.specs.Code.{run-answer, count-answer};
+ghost use Rattle.base.specs.Code.{run-answer, preview-answer, count-answer};
 
 // The variables that a text can name, numbered from 0; a store has a cell for each.
 pub const VARIABLES: usize = 64;
@@ -36,6 +37,12 @@ pub enum Run {
     Ended { end: End, count: u32, mark: usize },
 }
 
+// The answer of a preview: what the run on a copy tells, and the store that it leaves; after a refusal 64 zeros.
+pub struct Preview {
+    pub run: Run,
+    pub store: [i32; VARIABLES],
+}
+
 // The answer of a call that gives a count: a refusal, or the count.
 pub enum Count {
     Refused(Refusal),
@@ -47,6 +54,17 @@ impl Run {
         ensures { λ r. ⌜ run-answer r ≡ refused number place ⌝ }
     {
         Run::Refused(Refusal { number, place })
+    }
+}
+
+impl Preview {
+    pub fn decline(refusal: Refusal) -> Self
+        ensures { λ r. ⌜ preview-answer r ≡ (refused (refusal .number) (refusal .place), replicate 64 (pos 0)) ⌝ }
+    {
+        Preview {
+            run: Run::Refused(refusal),
+            store: [0; VARIABLES],
+        }
     }
 }
 

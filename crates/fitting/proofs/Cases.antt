@@ -1,8 +1,8 @@
--- Profiles A to K hold of the definitions, and the calls decline, by computation (Cases: MemoryOfI, Profiles,
--- LoadDeclines, ReadBackDeclines).
+-- Profiles A to K hold of the definitions, the calls decline, and B is previewed, by computation (Cases: MemoryOfI,
+-- Profiles, LoadDeclines, ReadBackDeclines, PreviewsOfB, PreviewDeclines).
 use mathlib.Core.Path.{refl}
 use Rattle.base.specs.Acts.{then′, give}
-use Rattle.base.specs.Answers.{and-then, settle}
+use Rattle.base.specs.Answers.{and-then, settle, previewed}
 use Rattle.base.specs.Rows.{call, answered}
 use Rattle.word.specs.Numbers.{number-of, number-at, bits-of, bytes-of}
 use Rattle.word.specs.Sums.{limited, sum32}
@@ -27,10 +27,10 @@ use Rattle.compile.specs.Compilation.{acomp, bcomp, ccomp}
 use Rattle.compile.specs.Table.{member, once, vars, addr-of, entries, times, once-each}
 use Rattle.compile.specs.Calls.{compile-tests, compile}
 use Rattle.fitting.specs.Loading.{put, fill, got, read-back}
-use Rattle.fitting.specs.Calls.{table-tests, pod-tests, load, read-back-call}
+use Rattle.fitting.specs.Calls.{table-tests, pod-tests, load, read-back-call, preview-tests, preview-machine}
 use Rattle.fitting.specs.Rows.{fit, four-calls}
 use Rattle.fitting.specs.Cases.{cases, measured, by-rules, by-machine, Profiles, MemoryOfI, LoadDeclines}
-use Rattle.fitting.specs.Cases.{ReadBackDeclines}
+use Rattle.fitting.specs.Cases.{ReadBackDeclines, PreviewsOfB, PreviewDeclines}
 
 pub memory-of-I : MemoryOfI
 unfolding put fill
@@ -79,4 +79,34 @@ read-back-declines = record {
   eight-twelve = refl;
   eight-twelve-table = refl;
   twelve-eleven = refl;
+}
+
+pub previews-of-B : PreviewsOfB
+unfolding and-then settle previewed then′ give number-of number-at limited sum32 within target
+    operation name-of option-map is-zero record-of in-front records-from
+    taken pop push held keep in-range next land jump act after run-at run machine-tests run-machine
+    times once-each put fill got read-back table-tests pod-tests read-back-call preview-tests preview-machine
+previews-of-B = refl
+
+pub preview-declines : PreviewDeclines
+unfolding zeros and-then settle previewed then′ give number-of number-at limited sum32 within target
+    operation name-of option-map is-zero record-of in-front records-from
+    taken pop push held keep in-range next land jump act after run-at run machine-tests run-machine
+    times once-each got read-back table-tests pod-tests read-back-call preview-tests preview-machine
+preview-declines = record {
+  nine = refl;
+  eight-store = refl;
+  eight-table = refl;
+  twelve = refl;
+  ten = refl;
+  ten-address-2 = refl;
+  ten-second = refl;
+  eleven = refl;
+  eleven-longer = refl;
+  eleven-D = refl;
+  not-eleven = refl;
+  nine-eight = refl;
+  eight-twelve = refl;
+  twelve-ten = refl;
+  ten-eleven = refl;
 }

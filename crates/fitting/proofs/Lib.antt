@@ -4,6 +4,8 @@ pub mod Simulation
 pub mod Loading
 pub mod Memories
 pub mod Counts
+pub mod Calls
 pub mod Rows
 pub mod Demand3
+pub mod Previews
 pub mod Respelling

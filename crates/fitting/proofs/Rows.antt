@@ -1,5 +1,6 @@
 -- The four calls in a row, of a command within the limits and buffers of the right lengths: none declines, and what
--- they give and leave is the run of the machine code on the loaded memory, read back.
+-- they give and leave is the run of the machine code on the loaded memory, read back. A preview in place of the last two
+-- gives the same, and leaves the memory as it was loaded.
 use mathlib.Core.Path.{_≡_, refl, sym, _∙_, ap}
 use Prim.Native.Nat.{ℕ, _+_, _*_, _≤_}
 use native.Mathlib.Omega.{arith}
@@ -10,7 +11,7 @@ use lib.ListN.{length, take}
 use borrow.Author.Tests.{eq-eqb, le-leb}
 use Rattle.base.specs.Acts.{give}
 use Rattle.base.specs.Answers.{Answer, gives, and-then, settle}
-use Rattle.base.specs.Rows.{answered}
+use Rattle.base.specs.Rows.{call, answered}
 use Rattle.base.specs.Ends.{Result, Ran, report}
 use Rattle.base.proofs.Rows.{goes-on}
 use Rattle.text.specs.Syntax.{Command}
@@ -32,10 +33,11 @@ use Rattle.compile.proofs.Tables.{tables, named-variables}
 use Rattle.compile.proofs.Codes.{codes}
 use Rattle.compile.proofs.Calls.{compiled, machine-count, machine-length, taken-over}
 use Rattle.fitting.specs.Loading.{loaded, read-back}
-use Rattle.fitting.specs.Calls.{table-tests, pod-tests, load, read-back-call}
-use Rattle.fitting.specs.Rows.{Lent, buffers, fit, four-calls}
+use Rattle.fitting.specs.Calls.{table-tests, pod-tests, load, read-back-call, preview-machine}
+use Rattle.fitting.specs.Rows.{Lent, buffers, fit, four-calls, load-and-preview}
 use Rattle.fitting.specs.Demand3.{Ready}
 use Rattle.fitting.proofs.Loading.{length-loaded}
+use Rattle.fitting.proofs.Calls.{previews}
 
 module _ (text : List ℕ) (c : Command) (read : read-text text ≡ gives c) (w : Within c)
     (lent : Compiled) (memory : List ℤ) (store : Store) (ready : Ready c lent memory store) (budget : ℕ) where
@@ -133,3 +135,29 @@ module _ (text : List ℕ) (c : Command) (read : read-text text ≡ gives c) (w 
       ≡ gives (report budget ran, read-back t D store (ran .leaves .memory))
   unfolding four-calls and-then
   in-a-row = ap (λ (r : Answer Ran × Lent). and-then (r .0) (λ ran. gives (ran, r .1 .store))) whole-row
+
+  -- ---- with a preview
+  preview-written :
+      (gives (report budget ran), read-back t D store (ran .leaves .memory))
+      ≡ preview-machine (take (5 * records c) (over (machine-bytes c) (lent .code))) ready-memory D t store budget
+  preview-written =
+      let own = named-variables c (w .valid) .in-table in
+      previews (machine-bytes c) ready-memory D t store
+      (record {
+        names = table-tested ∙ ap gives (sym own);
+        records = ap (machine-tests (machine-bytes c) ready-memory D) own ∙ tested;
+      })
+      budget (sym runs ∙ ap (λ k. run-machine (machine-bytes c) ready-memory D k budget) (sym own))
+      ∙ ap (λ code. preview-machine code ready-memory D t store budget)
+      (sym (taken-over (machine-bytes c) (lent .code) (5 * records c) (machine-length c)))
+
+  pub preview-row : load-and-preview text (buffers (lent .code) (lent .table) memory store) budget
+      ≡ (gives (report budget ran, read-back t D store (ran .leaves .memory)), with-memory ready-memory)
+  unfolding load-and-preview and-then call answered
+  preview-row =
+      sym
+      (goes-on (λ l. buffers (l .code) (l .table) memory store) _
+      (sym (compiled text lent read (ready .table-bytes) (ready .output))) refl
+      (goes-on with-memory _ (sym loads) refl
+      (ap (λ (r : Answer Ran × Store). answered
+      (call (and-then (r .0) (λ ran. gives (ran, r .1))) (with-memory ready-memory))) preview-written)))

@@ -1,12 +1,12 @@
--- Profiles A to K (document 01, "Profiles to hold it to"), as one table; and where load and read_back decline ("When a
--- call declines").
+-- Profiles A to K (document 01, "Profiles to hold it to"), as one table; where load and read_back decline ("When a call
+-- declines"); and the preview of a loaded machine (document 02, W3).
 use mathlib.Core.Path.{_≡_}
 use Prim.Native.Nat.{ℕ, _+_, _*_}
-use mathlib.Core.List.{List, [], _∷_, map}
+use mathlib.Core.List.{List, [], _∷_, _++_, map}
 use lib.IntN.{ℤ, pos, negsuc}
 use lib.ListN.{getD, replicate, take}
 use Rattle.base.specs.Answers.{Answer, gives, refused, and-then}
-use Rattle.base.specs.Ends.{End, done, spent, fault, out-of-range, Ran}
+use Rattle.base.specs.Ends.{End, done, spent, fault, out-of-range, Ran, ran}
 use Rattle.text.specs.Syntax.{Command}
 use Rattle.text.specs.Reading.{read-text}
 use Rattle.text.specs.Sizes.{records, depth, cells}
@@ -15,14 +15,15 @@ use Rattle.text.specs.Cases.{K·text}
 use Rattle.source.specs.Rules.{Store}
 use Rattle.source.specs.Calls.{run-source}
 use Rattle.source.specs.Cases.{zeros, sevens}
+use Rattle.record.specs.Cases.{five}
 use Rattle.record.specs.Records.{AssemblyCode, LOADI, LOAD, ADD, STORE, JMP, JMPLESS, JMPGE, variable}
 use Rattle.machine.specs.Cases.{memory}
 use Rattle.compile.specs.Compilation.{ccomp}
 use Rattle.compile.specs.Table.{table}
 use Rattle.compile.specs.Calls.{Compiled}
-use Rattle.compile.specs.Cases.{two-ones}
+use Rattle.compile.specs.Cases.{B·machine, B·table, two-ones}
 use Rattle.fitting.specs.Loading.{loaded}
-use Rattle.fitting.specs.Calls.{load, read-back-call}
+use Rattle.fitting.specs.Calls.{load, read-back-call, preview-machine}
 use Rattle.fitting.specs.Rows.{four-calls}
 
 -- A text and a budget; the assembly records; D; n; the addresses of x0, x1 and x2; and, starting from zeros, the end,
@@ -187,3 +188,47 @@ pub record ReadBackDeclines : Type 0 where
   pub eight-twelve-table : read-back-call (two-ones 61) (memory 5) 2 (sevens 64) ≡ (refused 8 0, sevens 64)
   -- 12, and 11: two entries 1, and 3 cells
   pub twelve-eleven : read-back-call (two-ones 62) (memory 3) 2 (sevens 64) ≡ (refused 12 0, sevens 64)
+
+-- ---- Previews of a loaded machine
+
+-- B's machine code, loaded from a store of equal cells and previewed over sevens
+abbrev pub preview-B : ℤ → ℕ → Answer Ran × Store
+preview-B x budget = preview-machine B·machine (loaded B·table 2 2 (replicate 64 x)) 2 B·table (sevens 64) budget
+
+-- Loaded from sevens, under budget 3 and 4: the store so far, and the run's own at its end; loaded from eights, x0 and x1
+-- come from the memory, and the other variables from the store.
+abbrev pub PreviewsOfB : Type 0
+PreviewsOfB = preview-B (pos 7) 3 ∷ preview-B (pos 7) 4 ∷ preview-B (pos 8) 4 ∷ []
+    ≡ (gives (ran spent 3 2), sevens 64) ∷ (gives (ran done 4 2), pos 12 ∷ sevens 63)
+    ∷ (gives (ran done 4 2), pos 13 ∷ pos 8 ∷ sevens 62) ∷ []
+
+-- Where it declines, of code, memory, D, table and store under budget 9: number and place, and 64 zeros.
+pub record PreviewDeclines : Type 0 where
+  -- 9: 4 bytes
+  pub nine : preview-machine (replicate 4 0x50) (memory 4) 2 one-entry (sevens 64) 9 ≡ (refused 9 0, zeros)
+  -- 8: a store of 63 cells; a table of 63 bytes
+  pub eight-store : preview-machine (five 0x50 0) (memory 4) 2 one-entry (sevens 63) 9 ≡ (refused 8 0, zeros)
+  pub eight-table :
+      preview-machine (five 0x50 0) (memory 4) 2 (1 ∷ replicate 62 0) (sevens 64) 9 ≡ (refused 8 0, zeros)
+  -- 12: two entries 1
+  pub twelve : preview-machine (five 0x50 0) (memory 5) 2 (two-ones 62) (sevens 64) 9 ≡ (refused 12 0, zeros)
+  -- 10: `52 01 00 00 00`; the address 2, where the table names one variable and the memory has a cell more; at index 1
+  pub ten : preview-machine (five 0x52 1) (memory 4) 2 one-entry (sevens 64) 9 ≡ (refused 10 0, zeros)
+  pub ten-address-2 : preview-machine (five 0x51 2) (memory 5) 2 one-entry (sevens 64) 9 ≡ (refused 10 0, zeros)
+  pub ten-second :
+      preview-machine (five 0x50 0 ++ five 0x51 0) (memory 4) 2 one-entry (sevens 64) 9 ≡ (refused 10 1, zeros)
+  -- 11: D 2, n 1, 3 cells, and 5 cells; D 65
+  pub eleven : preview-machine (five 0x50 0) (memory 3) 2 one-entry (sevens 64) 9 ≡ (refused 11 0, zeros)
+  pub eleven-longer : preview-machine (five 0x50 0) (memory 5) 2 one-entry (sevens 64) 9 ≡ (refused 11 0, zeros)
+  pub eleven-D : preview-machine (five 0x50 0) (memory 67) 65 one-entry (sevens 64) 9 ≡ (refused 11 0, zeros)
+  -- with 4 cells it runs: x0 is what address 1 holds
+  pub not-eleven :
+      preview-machine (five 0x50 0) (memory 4) 2 one-entry (sevens 64) 9 ≡ (gives (ran done 1 1), pos 8 ∷ sevens 63)
+  -- 9, and 8: 4 bytes, and a store of 63 cells
+  pub nine-eight : preview-machine (replicate 4 0x50) (memory 4) 2 one-entry (sevens 63) 9 ≡ (refused 9 0, zeros)
+  -- 8, and 12: a store of 63 cells, and two entries 1
+  pub eight-twelve : preview-machine (five 0x50 0) (memory 5) 2 (two-ones 62) (sevens 63) 9 ≡ (refused 8 0, zeros)
+  -- 12, and 10: two entries 1, and `52 01 00 00 00`
+  pub twelve-ten : preview-machine (five 0x52 1) (memory 5) 2 (two-ones 62) (sevens 64) 9 ≡ (refused 12 0, zeros)
+  -- 10, and 11: `52 01 00 00 00`, and 3 cells
+  pub ten-eleven : preview-machine (five 0x52 1) (memory 3) 2 one-entry (sevens 64) 9 ≡ (refused 10 0, zeros)

@@ -3,6 +3,7 @@ pub mod Calls
 pub mod Rows
 pub mod Simulation
 pub mod Demand3
+pub mod Previews
 pub mod Counts
 pub mod Respelling
 pub mod Cases

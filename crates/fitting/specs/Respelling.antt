@@ -10,9 +10,10 @@ use Rattle.text.specs.Reading.{read-text}
 use Rattle.text.specs.Respelling.{Respelled}
 use Rattle.text.specs.Calls.{read-call}
 use Rattle.source.specs.Rules.{Store}
-use Rattle.source.specs.Calls.{run-source}
+use Rattle.source.specs.Calls.{run-source, preview-source}
 use Rattle.compile.specs.Calls.{Compiled, assemble, compile}
-use Rattle.fitting.specs.Rows.{Lent, fit, AssemblyLent, assemble-and-run, BackLent, compile-and-go-back}
+use Rattle.fitting.specs.Rows.{Lent, fit, load-and-preview, AssemblyLent, assemble-and-run}
+use Rattle.fitting.specs.Rows.{BackLent, compile-and-go-back}
 
 pub record SameAnswers (text other : List ℕ) : Type 0 where
   -- record count, D and n
@@ -26,6 +27,10 @@ pub record SameAnswers (text other : List ℕ) : Type 0 where
   pub running-assembly : (lent : AssemblyLent) (budget : ℕ)
       → assemble-and-run text lent budget ≡ assemble-and-run other lent budget
   pub fitting : (lent : Lent) (budget : ℕ) → fit text lent budget ≡ fit other lent budget
+  -- the previews of the text and of its machine code
+  pub previewing : (store : Store) (budget : ℕ) → preview-source text store budget ≡ preview-source other store budget
+  pub previewing-loaded : (lent : Lent) (budget : ℕ)
+      → load-and-preview text lent budget ≡ load-and-preview other lent budget
   -- the assembly that its machine code goes back to
   pub going-back : (lent : BackLent) → compile-and-go-back text lent ≡ compile-and-go-back other lent
 

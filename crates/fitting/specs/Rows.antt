@@ -1,5 +1,6 @@
--- Calls in a row (document 01, "Executors"), with every lent buffer as it is left: demand 3's four calls, and two rows of
--- two calls. A call that declines ends the row; what the calls before it wrote stays.
+-- Calls in a row (document 01, "Executors"), with every lent buffer as it is left: demand 3's four calls, the preview of
+-- what was compiled and loaded (document 02, W3), and two rows of two calls. A call that declines ends the row; what the
+-- calls before it wrote stays.
 use Prim.Native.Nat.{ℕ, _*_}
 use mathlib.Core.List.{List}
 use lib.IntN.{ℤ}
@@ -13,7 +14,7 @@ use Rattle.source.specs.Rules.{Store}
 use Rattle.machine.specs.Memories.{Assembly}
 use Rattle.machine.specs.Calls.{run-assembly, run-machine}
 use Rattle.compile.specs.Calls.{Compiled, assemble, compile, go-back}
-use Rattle.fitting.specs.Calls.{load, read-back-call}
+use Rattle.fitting.specs.Calls.{load, read-back-call, preview-machine}
 
 -- ---- The four calls
 
@@ -60,6 +61,18 @@ unfoldable pub four-calls : List ℕ → Compiled → List ℤ → Store → ℕ
 four-calls text l memory store budget =
     let r = fit text (buffers (l .code) (l .table) memory store) budget in
     and-then (r .0) (λ ran. gives (ran, r .1 .store))
+
+-- ---- Compiling, loading, and a preview in place of the run
+
+-- "for the loaded machine", with "the table and the store that was loaded"; nothing that is lent changes
+abbrev pub previewing : Sizes → ℕ → Row Lent (Ran × Store)
+previewing z budget l =
+    let code = take (5 * z .records) (l .code) in
+    let r = preview-machine code (l .memory) (z .depth) (l .table) (l .store) budget in
+    call (and-then (r .0) (λ ran. gives (ran, r .1))) l
+
+unfoldable pub load-and-preview : List ℕ → Lent → ℕ → Answer (Ran × Store) × Lent
+load-and-preview text l budget = answered ((do z ← compiling text; loading z; previewing z budget) l)
 
 -- ---- Assembling, and running the records written
 

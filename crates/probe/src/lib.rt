@@ -1,7 +1,9 @@
 // For tests only: public calls whose answers are one number, so that programs in other languages can compare them. What
 // each answers is said by its own contract and by that of the function that packs it.
 use base::Count;
+use base::Preview;
 use base::Run;
+use base::copy_cells;
 use text::Reading;
 
 #[no_mangle]
@@ -54,4 +56,56 @@ pub extern "C" fn probe_read_back(
 ) -> u64 {
     let count: Count = fitting_load::read_back(table, memory, depth, store);
     pod_packing::pack_count(count)
+}
+
+// Cells written over as many lent ones.
+fn put_cells(cells: &[i32], out: &mut [i32]) {
+    if cells.len() == out.len() {
+        copy_cells(cells, out);
+    }
+}
+
+// A preview's answer as one number, and its store in the lent cells, unless it is refused.
+fn put_preview(preview: Preview, out: &mut [i32]) -> u64 {
+    let run = preview.run;
+    let store = preview.store;
+    match run {
+        Run::Refused(_) => pod_packing::pack_run(run),
+        Run::Ended { .. } => {
+            put_cells(&store, out);
+            pod_packing::pack_run(run)
+        }
+    }
+}
+
+#[no_mangle]
+pub extern "C" fn probe_preview_source(
+    text: &[u8],
+    store: &[i32],
+    budget: u32,
+    out: &mut [i32],
+) -> u64 {
+    let preview: Preview = source_run::preview_source(text, store, budget);
+    put_preview(preview, out)
+}
+
+#[no_mangle]
+pub extern "C" fn probe_preview_machine(
+    code: &[u8],
+    memory: &[i32],
+    depth: u64,
+    table: &[u8],
+    store: &[i32],
+    budget: u32,
+    out: &mut [i32],
+) -> u64 {
+    let preview: Preview = fitting_preview::preview_machine(
+        code,
+        memory,
+        depth,
+        table,
+        store,
+        budget,
+    );
+    put_preview(preview, out)
 }

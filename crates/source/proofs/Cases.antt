@@ -1,11 +1,11 @@
--- Profiles A to K under the source rules, a mark tick by tick, and where the call declines, by computation (Cases:
--- Tallies, Marks, Declines); J at every budget, pass by pass (Forever).
+-- Profiles A to K under the source rules, a mark tick by tick, where the call declines, and previews, by computation
+-- (Cases: Tallies, Marks, Declines, Previews, PreviewDeclines); J at every budget, pass by pass (Forever).
 use mathlib.Core.Path.{_≡_, refl, _∙_, ap}
 use Prim.Native.Nat.{ℕ, zero, suc, _-_, _<_}
 use native.Mathlib.Omega.{arith}
 use mathlib.Core.Bool.{true, false}
 use Rattle.base.specs.Acts.{then′, give}
-use Rattle.base.specs.Answers.{gives, and-then, settle}
+use Rattle.base.specs.Answers.{gives, and-then, settle, previewed}
 use Rattle.base.specs.Ends.{End, Result, result, ran, report}
 use Rattle.word.specs.Numbers.{number-of, number-at, byte-number}
 use Rattle.word.specs.Sums.{limited, sum32}
@@ -18,8 +18,8 @@ use Rattle.text.specs.Cases.{texts}
 use Rattle.source.specs.Rules.{Store, start, run-rules}
 use Rattle.source.specs.Rules.{charge, tick, raise, lower, cell, assign, total, add, value, truth, loop, exec}
 use Rattle.source.specs.Rules.{end-of, result-of}
-use Rattle.source.specs.Calls.{source-tests, run-source}
-use Rattle.source.specs.Cases.{zeros, Tallies, Marks, Forever, Declines}
+use Rattle.source.specs.Calls.{source-tests, run-source, preview-source}
+use Rattle.source.specs.Cases.{zeros, Tallies, Marks, Forever, Declines, Previews, PreviewDeclines}
 use Rattle.source.proofs.Calls.{source-runs}
 
 pub tallies : Tallies
@@ -71,6 +71,28 @@ unfolding B·text then′ give and-then settle number-of number-at
     expression-of expression condition-of condition command-of command all-read read-text
     source-tests run-source
 declines = record {
+  eight = refl;
+  eight-longer = refl;
+  six-reading = refl;
+  reading-eight = refl;
+}
+
+-- ---- Previews
+
+pub previews : Previews
+unfolding then′ give and-then settle previewed byte-number limited sum32
+    expression-byte condition-byte command-byte decline there due pass operand number-due number
+    expression-of expression condition-of condition command-of command all-read read-text
+    charge tick raise lower cell assign total add value truth loop exec end-of result-of
+    source-tests run-source preview-source
+previews = refl
+
+pub preview-declines : PreviewDeclines
+unfolding B·text zeros then′ give and-then settle previewed number-of number-at
+    expression-byte condition-byte command-byte decline there due pass operand number-due number
+    expression-of expression condition-of condition command-of command all-read read-text
+    source-tests run-source preview-source
+preview-declines = record {
   eight = refl;
   eight-longer = refl;
   six-reading = refl;

@@ -1,5 +1,5 @@
--- How profiles A to K end under the source rules, from zeros (document 01, "Profiles to hold it to"), and where the
--- call declines ("When a call declines").
+-- How profiles A to K end under the source rules, from zeros (document 01, "Profiles to hold it to"), where the call
+-- declines ("When a call declines"), and its preview (document 02, W3).
 use mathlib.Core.Path.{_≡_}
 use Prim.Native.Nat.{ℕ}
 use mathlib.Core.List.{List, [], _∷_, map}
@@ -9,7 +9,7 @@ use Rattle.base.specs.Answers.{Answer, gives, refused}
 use Rattle.base.specs.Ends.{End, done, spent, fault, out-of-range, Ran, ran}
 use Rattle.text.specs.Cases.{B·text, J·text, texts, x64·text}
 use Rattle.source.specs.Rules.{Store}
-use Rattle.source.specs.Calls.{run-source}
+use Rattle.source.specs.Calls.{run-source, preview-source}
 
 unfoldable pub zeros : Store
 zeros = replicate 64 (pos 0)
@@ -59,3 +59,18 @@ pub record Declines : Type 0 where
   pub six-reading : run-source (replicate 4097 0x7f) (sevens 64) 9 ≡ (refused 6 0, sevens 64)
   -- reading's 3, and 8: `01 40 11 00` and a store of 63 cells
   pub reading-eight : run-source x64·text (sevens 63) 9 ≡ (refused 3 1, sevens 63)
+
+-- ---- Previews (document 02, W3)
+
+-- The same two assignments from sevens, previewed under budget 3, 4 and 6: the store so far, and the run's own at its end
+abbrev pub Previews : Type 0
+Previews = map (preview-source two-assignments (sevens 64)) (3 ∷ 4 ∷ 6 ∷ [])
+    ≡ (gives (ran spent 3 2), sevens 64) ∷ (gives (ran spent 4 2), pos 3 ∷ sevens 63)
+    ∷ (gives (ran done 6 2), pos 3 ∷ pos 3 ∷ sevens 62) ∷ []
+
+-- It declines as the run does, and its store is then 64 zeros.
+pub record PreviewDeclines : Type 0 where
+  pub eight : preview-source B·text (sevens 63) 9 ≡ (refused 8 0, zeros)
+  pub eight-longer : preview-source B·text (sevens 65) 9 ≡ (refused 8 0, zeros)
+  pub six-reading : preview-source (replicate 4097 0x7f) (sevens 64) 9 ≡ (refused 6 0, zeros)
+  pub reading-eight : preview-source x64·text (sevens 63) 9 ≡ (refused 3 1, zeros)

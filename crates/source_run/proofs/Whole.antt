@@ -1,18 +1,19 @@
--- The call `run_source`: its tests, from what reading comes to; its run, from what the text's command came to at the
--- text's start; and that a text in its buffer runs as the text does.
+-- The call `run_source` and its preview: their tests, from what reading comes to; the run, from what the text's command
+-- came to at the text's start; and that a text in its buffer runs as the text does.
 use mathlib.Core.Path.{_≡_, sym, ap, subst, _∙_}
 use Prim.Native.Nat.{ℕ, _≤_}
 use native.Mathlib.Nat.{le-refl}
 use native.Mathlib.Omega.{arith}
 use mathlib.Core.List.{List, _++_}
 use lib.Dec.{eqb}
-use lib.ListN.{length, drop, length-append, length-drop}
+use lib.IntN.{pos}
+use lib.ListN.{length, drop, replicate, length-append, length-drop}
 use borrow.Author.Tests.{eq-eqb, eqb-true, ne-eqb}
 use Rattle.base.specs.Acts.{ok}
 use Rattle.base.specs.Answers.{Answer, gives, refused, and-then}
 use Rattle.base.specs.Ends.{Ran, report}
 use Rattle.base.proofs.Answers.{gives-one}
-use Rattle.base.proofs.Settled.{needed, unless-passed, refused-first, declined}
+use Rattle.base.proofs.Settled.{needed, unless-passed, refused-first, declined, preview-made, preview-declined}
 use Rattle.word.specs.Sums.{sum32}
 use Rattle.text.specs.Syntax.{Command}
 use Rattle.text.specs.Reading.{command, read-text}
@@ -24,7 +25,7 @@ use Rattle.text.proofs.Longer.{command-longer}
 use Rattle.text_ends.specs.Ends.{PartEnds}
 use Rattle.text_ends.proofs.Longer.{ends-longer}
 use Rattle.source.specs.Rules.{Store, start, Outcomes, result-of}
-use Rattle.source.specs.Calls.{source-tests, run-source}
+use Rattle.source.specs.Calls.{source-tests, run-source, preview-source}
 use Rattle.source.proofs.Ticks.{Low, low-exec}
 use Rattle.source_values.specs.Placed.{Read, placed}
 use Rattle.source_values.proofs.Steps.{was-read, gave, stopped}
@@ -53,10 +54,15 @@ module _ (text : List ℕ) (store : Store) where
   unfolding source-tests and-then read-call
   tests-passed e h = e ∙ simp (read-gives text e .1, eq-eqb (length store) 64 h)
 
-  -- and what they say: the call declines,
+  -- and what they say: the call declines, and so does its preview,
   pub declines : (budget : ℕ) {k p : ℕ} → refused k p ≡ tests → (refused k p, store) ≡ run-source text store budget
   unfolding run-source
   declines budget e = declined (source-tests text store) _ _ store (refused-first _ sizes (sym e))
+
+  pub preview-declines : (budget : ℕ) {k p : ℕ} → refused k p ≡ tests
+      → (refused k p, replicate 64 (pos 0)) ≡ preview-source text store budget
+  unfolding preview-source
+  preview-declines budget e = preview-declined (source-tests text store) _ (refused-first _ sizes (sym e))
 
   -- or they are passed: the text is accepted and the store has its cells.
   pub accepted : {s : Sizes} → gives s ≡ tests → (c : Command) × (source-tests text store ≡ gives c)
@@ -75,6 +81,12 @@ module _ (text : List ℕ) (store : Store) where
       let read = needed (read-text text) _ e in
       let fits = unless-passed (eqb (length store) 64) 8 0 _ (read .then-gives) in
       record { text-command = read .value; is = read .given; long = eqb-true (length store) 64 (fits .0) }
+
+  -- The preview is then the run's answer, and the store that it leaves.
+  pub previews : (budget : ℕ) {c : Command} → source-tests text store ≡ gives c
+      → run-source text store budget ≡ preview-source text store budget
+  unfolding preview-source
+  previews budget e = preview-made (source-tests text store) (run-source text store budget) e
 
 -- ---- The run
 

@@ -1,23 +1,24 @@
-// The source executor's call: a profile text is read, and then run as it stands, by the source rules. The text and the
-// store are copied into arrays for the run, which is then faster (source_values says why).
+// The source executor's call and its preview: a profile text is read, and then run as it stands, by the source rules. The
+// text and the store are copied into arrays for the run, which is then faster (source_values says why).
 ghost use mathlib.Core.Path.{_≡_};
 ghost use Prim.Native.Nat.{_≤_};
 ghost use lib.Dec.{leb};
 ghost use lib.ListN.{length, getD};
 ghost use Rattle.base.specs.Acts.{if_then_else_};
 ghost use Rattle.base.specs.Answers.{gives, and-then};
-ghost use Rattle.base.specs.Code.{end-of, run-answer};
+ghost use Rattle.base.specs.Code.{end-of, run-answer, preview-answer};
 ghost use Rattle.text.specs.Syntax.{Command};
 ghost use Rattle.text.specs.Reading.{command, read-text};
 ghost use Rattle.text.specs.Sizes.{sizes};
 ghost use Rattle.text.specs.Code.{sizes-answer};
 ghost use Rattle.text_ends.specs.Ends.{PartEnds, first};
 ghost use Rattle.source.specs.Rules as Rules;
-ghost use Rattle.source.specs.Calls.{source-tests, run-source};
+ghost use Rattle.source.specs.Calls.{source-tests, run-source, preview-source};
 ghost use Rattle.source_values.specs.Placed.{Read};
 ghost use Rattle.source_values.specs.Code.{early};
 ghost use Rattle.source_run.specs.Code.{told, runs, Runs, Laid};
 use base::End;
+use base::Preview;
 use base::Run;
 use base::VARIABLES;
 use base::copy_bytes;
@@ -198,6 +199,25 @@ pub fn run_source(text: &[u8], store: &mut [i32], budget: u32) -> Run
             let run = run_text(text, &mut cells, budget);
             copy_cells(&cells, store);
             run
+        }
+    }
+}
+
+// Runs a text on a copy of a store under a budget: the end, the count and the mark, and the store that the run would
+// leave. It refuses as run_source does, and its store is then 64 zeros.
+pub fn preview_source(text: &[u8], store: &[i32], budget: u32) -> Preview
+    ensures { λ r. ⌜ preview-answer r ≡ preview-source (now (text .entry)) (now (store .entry)) budget ⌝ }
+    ensures { λ r. ⌜ now (store .exit) ≡ now (store .entry) ⌝ }
+{
+    match test(text, store) {
+        Reading::Refused(refusal) => Preview::decline(refusal),
+        Reading::Accepted(_) => {
+            let mut cells = [0; VARIABLES];
+            copy_cells(store, &mut cells);
+            Preview {
+                run: run_text(text, &mut cells, budget),
+                store: cells,
+            }
         }
     }
 }
