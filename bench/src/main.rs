@@ -3,6 +3,7 @@
 mod compiler;
 mod cursor;
 mod executors;
+mod previews;
 mod reader;
 mod runs;
 mod texts;
@@ -30,9 +31,15 @@ fn main() {
     let skipping = texts::skipping_loops();
     runs::skipped_branch(&skipping, SKIPPING_RUN);
     runs::machine("machine code, the same, ns per record", &skipping, SKIPPING_RUN);
-    let (long, profiles) = (texts::long(), texts::profiles());
+    let (long, profiles, loops) = (texts::long(), texts::profiles(), texts::loops());
     runs::short(&[profiles.as_slice(), &long[..1]].concat(), 10);
     runs::short(&profiles, 1_000_000);
+    for budget in [10, 1_000_000] {
+        previews::source(&profiles, budget);
+        previews::machine(&profiles, budget);
+    }
+    previews::source(&loops, 1_000_000);
+    previews::machine(&loops, 1_000_000);
     translations::texts(&long, &profiles);
     translations::shapes(&texts::shapes());
 }
