@@ -52,12 +52,9 @@ module _ (code : List ℕ) (memory : List ℤ) (D : ℕ) (t : List ℕ) (store :
     made e =
         let g = preview-gave (preview-tests code memory D t store) _ e in
         let p = preview-passed code memory D t store (g .1) in
-        let run = run-machine code memory D (named-in t) budget in (
-          run .1,
-          (λ i. (g .2 i .0, run .1)),
-          sym (reads-back code memory D t store p budget refl)
-              ∙ (λ i. (gives (named-in t), (ap (λ x. x .1) (reads-back code memory D t store p budget refl) ∙ ap (λ x. x .1) (g .2)) i)),
-        )
+        let run = run-machine code memory D (named-in t) budget in
+        let back = reads-back code memory D t store p budget refl in
+        (run .1, (λ i. (g .2 i .0, run .1)), (λ i. (sym back i .0, g .2 i .1)))
 
     previewed-by : Made → preview-machine code memory D t store budget ≡ (gives ran, s)
     unfolding run-machine read-back-call pod-tests
@@ -67,8 +64,8 @@ module _ (code : List ℕ) (memory : List ℤ) (D : ℕ) (t : List ℕ) (store :
         let x = needed (table-tests t store) _ (h .passed) in
         let p : PreviewPassed code memory D t store (g .value) =
         record { names = x .given ∙ ap gives (names-own t store (x .given)); records = g .passed } in
-        sym (previews code memory D t store p budget (sym runs))
-        ∙ (λ i. (gives ran, (ap (λ x. x .1) (reads-back code memory D t store p budget (sym runs)) ∙ ap (λ x. x .1) reads) i))
+        let back = reads-back code memory D t store p budget (sym runs) ∙ reads in
+        sym (previews code memory D t store p budget (sym runs)) ∙ (λ i. (gives ran, back i .1))
 
 pub machine-previewed : MachinePreviewed
 machine-previewed code memory D t store budget ran s =

@@ -16,6 +16,7 @@ use Rattle.machine.specs.Calls.{memory-fits}
 use Rattle.compile.specs.Table.{named-in, is-table}
 use Rattle.fitting.specs.Loading.{fill, loaded}
 use Rattle.fitting.specs.Calls.{table-tests, pod-tests}
+use Rattle.fitting.proofs.Calls.{names-own}
 use Rattle.compile_table.proofs.Passing.{entries-most}
 use Rattle.base.proofs.Answers.{gives-one}
 use Rattle.base.proofs.Settled.{unless-passed, needed, both}
@@ -61,7 +62,7 @@ module _ (t : List ℕ) (store : Store) where
         bytes = eqb-true (length t) 64 (sizes .0);
         cells = eqb-true (length store) 64 (sizes .1);
         passes = table .0;
-        count = sym (gives-one _ _ (table .1));
+        count = names-own t store e;
       }
 
 -- ---- And a memory

@@ -12,6 +12,7 @@ use borrow.Author.Tests.{eq-eqb, eqb-true, ne-eqb}
 use Rattle.base.specs.Acts.{ok}
 use Rattle.base.specs.Answers.{Answer, gives, refused, and-then}
 use Rattle.base.specs.Ends.{Ran, report}
+use Rattle.base.specs.declared.Refusal.{Refusal}
 use Rattle.base.proofs.Answers.{gives-one}
 use Rattle.base.proofs.Settled.{needed, unless-passed, refused-first, declined, preview-made, preview-declined}
 use Rattle.word.specs.Sums.{sum32}
@@ -19,6 +20,9 @@ use Rattle.text.specs.Syntax.{Command}
 use Rattle.text.specs.Reading.{command, read-text}
 use Rattle.text.specs.Sizes.{sizes}
 use Rattle.text.specs.declared.Sizes.{Sizes}
+use Rattle.text.specs.declared.Reading.{Reading}
+use Rattle.text.specs.declared.Reading.the-variants.{Refused, Accepted}
+use Rattle.text.specs.Code.{sizes-answer}
 use Rattle.text.specs.Calls.{read-call}
 use Rattle.text.proofs.Opened.{taken, read-gives, read-refuses}
 use Rattle.text.proofs.Longer.{command-longer}
@@ -26,6 +30,7 @@ use Rattle.text_ends.specs.Ends.{PartEnds}
 use Rattle.text_ends.proofs.Longer.{ends-longer}
 use Rattle.source.specs.Rules.{Store, start, Outcomes, result-of}
 use Rattle.source.specs.Calls.{source-tests, run-source, preview-source}
+use Rattle.source.proofs.Calls.{source-runs}
 use Rattle.source.proofs.Ticks.{Low, low-exec}
 use Rattle.source_values.specs.Placed.{Read, placed}
 use Rattle.source_values.proofs.Steps.{was-read, gave, stopped}
@@ -55,38 +60,46 @@ module _ (text : List ℕ) (store : Store) where
   tests-passed e h = e ∙ simp (read-gives text e .1, eq-eqb (length store) 64 h)
 
   -- and what they say: the call declines, and so does its preview,
-  pub declines : (budget : ℕ) {k p : ℕ} → refused k p ≡ tests → (refused k p, store) ≡ run-source text store budget
-  unfolding run-source
-  declines budget e = declined (source-tests text store) _ _ store (refused-first _ sizes (sym e))
+  module _ (budget : ℕ) {x : Reading} {why : Refusal} (tested : sizes-answer x ≡ tests) (declines : x ≡ Refused why) where
+    refuses : source-tests text store ≡ refused (why .number) (why .place)
+    refuses = refused-first (source-tests text store) sizes (sym tested ∙ ap sizes-answer declines)
 
-  pub preview-declines : (budget : ℕ) {k p : ℕ} → refused k p ≡ tests
-      → (refused k p, replicate 64 (pos 0)) ≡ preview-source text store budget
-  unfolding preview-source
-  preview-declines budget e = preview-declined (source-tests text store) _ (refused-first _ sizes (sym e))
+    pub run-declines : (refused (why .number) (why .place), store) ≡ run-source text store budget
+    unfolding run-source
+    run-declines = declined (source-tests text store) _ _ store refuses
+
+    pub preview-declines : (refused (why .number) (why .place), replicate 64 (pos 0)) ≡ preview-source text store budget
+    unfolding preview-source
+    preview-declines = preview-declined (source-tests text store) _ refuses
 
   -- or they are passed: the text is accepted and the store has its cells.
-  pub accepted : {s : Sizes} → gives s ≡ tests → (c : Command) × (source-tests text store ≡ gives c)
-  accepted e =
-      let whole = needed (source-tests text store) (λ c. gives (sizes c)) (sym e) in
-      (whole .value, whole .given)
-
   pub record Passed : Type 0 where
     pub text-command : Command
+    pub given : source-tests text store ≡ gives text-command
     pub is : read-text text ≡ gives text-command
     pub long : length store ≡ 64
 
-  pub passed : {c : Command} → source-tests text store ≡ gives c → Passed
+  pub passed : {x : Reading} {z : Sizes} → sizes-answer x ≡ tests → x ≡ Accepted z → Passed
   unfolding source-tests
-  passed e =
-      let read = needed (read-text text) _ e in
+  passed tested accepts =
+      let all = needed (source-tests text store) (λ c. gives (sizes c)) (sym tested ∙ ap sizes-answer accepts) in
+      let read = needed (read-text text) _ (all .given) in
       let fits = unless-passed (eqb (length store) 64) 8 0 _ (read .then-gives) in
-      record { text-command = read .value; is = read .given; long = eqb-true (length store) 64 (fits .0) }
+      record {
+        text-command = read .value;
+        given = all .given ∙ sym (fits .1);
+        is = read .given;
+        long = eqb-true (length store) 64 (fits .0);
+      }
 
-  -- The preview is then the run's answer, and the store that it leaves.
-  pub previews : (budget : ℕ) {c : Command} → source-tests text store ≡ gives c
-      → run-source text store budget ≡ preview-source text store budget
-  unfolding preview-source
-  previews budget e = preview-made (source-tests text store) (run-source text store budget) e
+  -- Then the run of its command is what the call answers and leaves, and what its preview gives.
+  module _ (p : Passed) (budget : ℕ) where
+    pub runs-source : runs (p .text-command) budget store ≡ run-source text store budget
+    runs-source = sym (source-runs text (p .text-command) store budget (p .is) (p .long))
+
+    pub runs-preview : runs (p .text-command) budget store ≡ preview-source text store budget
+    unfolding preview-source
+    runs-preview = runs-source ∙ preview-made (source-tests text store) (run-source text store budget) (p .given)
 
 -- ---- The run
 

@@ -1,13 +1,11 @@
 -- `preview_source` meets its contract: it declines by its tests, or runs the text on a copy of the store.
-use mathlib.Core.Path.{refl, sym, ap, _∙_}
+use mathlib.Core.Path.{refl, ap, _∙_}
 use native.Mathlib.Omega.{arith}
 use lib.IntN.{pos}
 use lib.ListN.{length, length-replicate}
 use borrow.Author.Needs.{needs}
-use Rattle.text.specs.Code.{sizes-answer}
-use Rattle.source.proofs.Calls.{source-runs}
 use Rattle.source_run.specs.Code.{runs}
-use Rattle.source_run.proofs.Whole.{preview-declines, accepted, passed, previews}
+use Rattle.source_run.proofs.Whole.{preview-declines, passed, runs-preview}
 use Rattle.source_run.proofs.preview_source.Statement.{statement}
 use Rattle.source_run.proofs.preview_source.Tie as tie
 
@@ -24,23 +22,20 @@ preview-source-spec =
     (λ c κs.
     let x : tie.After-enum-told = search in
     let r : tie.After-test = search in
-    let p = passed _ _ (accepted _ _ (sym (ap sizes-answer (x .enum-told .given .1)) ∙ r .test .ensures) .1) in
+    let p = passed _ _ (r .test .ensures) (x .enum-told .given .1) in
     omega (arith, p .long, length-replicate 64 (pos 0)))
     -- run-text-requires
     (λ c κs.
     let k : tie.After-copy-cells = search in
     let x : tie.After-enum-told = search in
     let r : tie.After-test = search in
-    let p = passed _ _ (accepted _ _ (sym (ap sizes-answer (x .enum-told .given .1)) ∙ r .test .ensures) .1) in
+    let p = passed _ _ (r .test .ensures) (x .enum-told .given .1) in
     ((p .text-command, p .is), ap length (k .copy-cells .ensures) ∙ p .long))
     -- returns
     (λ c.
     let x : tie.After-refusal = search in
-    let r : tie.After-test = search in (
-      c .decline .ensures
-          ∙ preview-declines _ _ _ (sym (ap sizes-answer (x .refusal .given .1)) ∙ r .test .ensures),
-      refl,
-    ))
+    let r : tie.After-test = search in
+    (c .decline .ensures ∙ preview-declines _ _ _ (r .test .ensures) (x .refusal .given .1), refl))
     -- returns-2
     (λ c.
     let t : tie.After-run-text = search in
@@ -48,11 +43,9 @@ preview-source-spec =
     let x : tie.After-enum-told = search in
     let r : tie.After-test = search in
     let s : tie.Start = search in
-    let tests = accepted _ _ (sym (ap sizes-answer (x .enum-told .given .1)) ∙ r .test .ensures) .1 in
-    let p = passed _ _ tests in (
+    let p = passed _ _ (r .test .ensures) (x .enum-told .given .1) in (
       t .run-text .ensures .0 (p .text-command) (p .is)
           ∙ ap (runs (p .text-command) (s .args .budget)) (k .copy-cells .ensures)
-          ∙ sym (source-runs (s .args .text .now) (p .text-command) (s .args .store .now) (s .args .budget) (p .is) (p .long))
-          ∙ previews _ _ (s .args .budget) tests,
+          ∙ runs-preview _ _ p (s .args .budget),
       refl,
     )))

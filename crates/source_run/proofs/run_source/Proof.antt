@@ -1,14 +1,12 @@
 -- `run_source` meets its contract: it declines by its tests, or runs the text on a copy of the store and copies that back.
-use mathlib.Core.Path.{sym, ap, _∙_}
+use mathlib.Core.Path.{ap, _∙_}
 use native.Mathlib.Omega.{arith}
 use lib.IntN.{pos}
 use lib.ListN.{length, length-replicate}
 use borrow.Author.Needs.{needs}
 use Rattle.base.specs.Code.{run-answer}
-use Rattle.text.specs.Code.{sizes-answer}
-use Rattle.source.proofs.Calls.{source-runs}
 use Rattle.source_run.specs.Code.{runs}
-use Rattle.source_run.proofs.Whole.{declines, accepted, passed}
+use Rattle.source_run.proofs.Whole.{run-declines, passed, runs-source}
 use Rattle.source_run.proofs.run_source.Statement.{statement}
 use Rattle.source_run.proofs.run_source.Tie as tie
 
@@ -24,14 +22,14 @@ run-source-spec =
     (λ c κs.
     let x : tie.After-enum-told = search in
     let r : tie.After-test = search in
-    let p = passed _ _ (accepted _ _ (sym (ap sizes-answer (x .enum-told .given .1)) ∙ r .test .ensures) .1) in
+    let p = passed _ _ (r .test .ensures) (x .enum-told .given .1) in
     omega (arith, p .long, length-replicate 64 (pos 0)))
     -- run-text-requires
     (λ c κs.
     let k : tie.After-copy-cells = search in
     let x : tie.After-enum-told = search in
     let r : tie.After-test = search in
-    let p = passed _ _ (accepted _ _ (sym (ap sizes-answer (x .enum-told .given .1)) ∙ r .test .ensures) .1) in
+    let p = passed _ _ (r .test .ensures) (x .enum-told .given .1) in
     ((p .text-command, p .is), ap length (k .copy-cells .ensures) ∙ p .long))
     (λ c. search needs)
     -- copy-cells-requires-2
@@ -39,14 +37,14 @@ run-source-spec =
     let t : tie.After-run-text = search in
     let x : tie.After-enum-told = search in
     let r : tie.After-test = search in
-    let p = passed _ _ (accepted _ _ (sym (ap sizes-answer (x .enum-told .given .1)) ∙ r .test .ensures) .1) in
+    let p = passed _ _ (r .test .ensures) (x .enum-told .given .1) in
     omega (arith, p .long, t .run-text .ensures .1))
     (λ c. search needs)
     -- returns
     (λ c.
     let x : tie.After-refusal = search in
     let r : tie.After-test = search in
-    declines _ _ _ (sym (ap sizes-answer (x .refusal .given .1)) ∙ r .test .ensures))
+    run-declines _ _ _ (r .test .ensures) (x .refusal .given .1))
     (λ c. search needs)
     -- returns-2
     (λ c.
@@ -56,8 +54,8 @@ run-source-spec =
     let x : tie.After-enum-told = search in
     let r : tie.After-test = search in
     let s : tie.Start = search in
-    let p = passed _ _ (accepted _ _ (sym (ap sizes-answer (x .enum-told .given .1)) ∙ r .test .ensures) .1) in
+    let p = passed _ _ (r .test .ensures) (x .enum-told .given .1) in
     ap (λ m. (run-answer (t .run-text .result), m)) (b .copy-cells2 .ensures)
     ∙ t .run-text .ensures .0 (p .text-command) (p .is)
     ∙ ap (runs (p .text-command) (s .args .budget)) (k .copy-cells .ensures)
-    ∙ sym (source-runs (s .args .text .now) (p .text-command) (s .args .store .now) (s .args .budget) (p .is) (p .long))))
+    ∙ runs-source _ _ p (s .args .budget)))
