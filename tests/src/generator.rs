@@ -39,6 +39,15 @@ impl Random {
         (0..n).map(|_| self.cell()).collect()
     }
 
+    /// How long a store or a table is lent: 64 most of the time.
+    pub fn lent_length(&mut self) -> usize {
+        if self.one_in(20) {
+            self.below(130)
+        } else {
+            64
+        }
+    }
+
     pub fn bytes(&mut self, n: usize) -> Vec<u8> {
         (0..n).map(|_| self.bits() as u8).collect()
     }

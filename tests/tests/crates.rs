@@ -126,14 +126,14 @@ fn tree() {
     assert_eq!(shown, listed);
 }
 
-/// The back end inlines a step into its run loop only while it has one caller; a step that is a function of its own makes
-/// each record eight times as dear.
+/// The back end inlines a step into its run loop, and the loop into its call, only while it has one caller. A step that is a
+/// function of its own makes each record eight times as dear, a loop that is one makes a quarter more instructions of it.
 #[test]
-fn steps_are_inlined() {
+fn steps_and_loops_are_inlined() {
     let library = root().join("target/staticlib/libprobe.a");
     let output = Command::new("nm").arg(&library).output().unwrap();
     let symbols = String::from_utf8(output.stdout).unwrap();
     assert!(symbols.contains("probe_run_machine"), "{}: {symbols}", library.display());
-    let steps: Vec<_> = symbols.lines().filter(|line| line.contains("step")).collect();
-    assert!(steps.is_empty(), "{steps:?}");
+    let found: Vec<_> = symbols.lines().filter(|line| line.contains("step") || line.contains("finish")).collect();
+    assert!(found.is_empty(), "{found:?}");
 }

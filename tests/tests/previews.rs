@@ -1,7 +1,7 @@
 //! W3, previews: as the simple interpreter has them, as the runs that they preview, and with what is lent as it was.
 
 use profile_tests::calls::{self, Answer, Ran};
-use profile_tests::generator::{self, Random};
+use profile_tests::generator;
 use profile_tests::{matching, model, seeds};
 
 const SEEDS: u64 = 4000;
@@ -14,16 +14,11 @@ fn of_source(text: &[u8], store: &[i32], budget: u32) -> (Answer<Ran>, Vec<i32>)
     (calls::preview_source(text, store, budget, &mut out), out)
 }
 
-/// 64 cells most of the time.
-fn store(random: &mut Random) -> Vec<i32> {
-    let length = if random.one_in(20) { random.below(130) } else { 64 };
-    random.cells(length)
-}
-
 #[test]
 fn of_texts() {
     seeds::for_each(SEEDS, |text, random, seed| {
-        let (lent, budget) = (store(random), random.budget());
+        let length = random.lent_length();
+        let (lent, budget) = (random.cells(length), random.budget());
         let before = lent.clone();
         let got = of_source(text, &lent, budget);
         assert_eq!(got, matching::preview(model::preview_source(text, &lent, budget), &LENT), "{seed}");
@@ -58,13 +53,22 @@ impl Loaded {
         (got, out)
     }
 
+    /// The same by the calls that it previews, made on copies.
+    fn run(&self, budget: u32) -> (Answer<Ran>, Vec<i32>) {
+        let (mut memory, mut store) = (self.memory.clone(), self.store.clone());
+        let n = self.table.iter().filter(|&&entry| entry != 0).count();
+        let ran = calls::run_machine(&self.code, &mut memory, self.depth, n as u64, budget);
+        assert_eq!(calls::read_back(&self.table, &memory, self.depth, &mut store), Answer::Gives(n));
+        (ran, store)
+    }
+
     fn by_interpreter(&self, budget: u32) -> (Answer<Ran>, Vec<i32>) {
         let Loaded { code, memory, depth, table, store } = self;
         matching::preview(model::preview_machine(code, memory, *depth, table, store, budget), &LENT)
     }
 }
 
-/// Both previews, one after the other at rising budgets, then the run of the text: the last preview said what it does.
+/// At rising budgets, each after the previews before it: both previews, the run of the text and that of the machine.
 #[test]
 fn of_loaded_machines() {
     seeds::for_each(SEEDS, |text, random, seed| {
@@ -76,6 +80,7 @@ fn of_loaded_machines() {
             let mut run = start.clone();
             assert_eq!(got.0, calls::run_source(text, &mut run, budget), "{seed}");
             assert_eq!(got.1, run, "{seed}");
+            assert_eq!(got, machine.run(budget), "{seed}");
         }
     });
 }
@@ -95,7 +100,8 @@ fn of_foreign_machines() {
                 Loaded { code, memory, depth: depth as u64, table, store: vec![] }
             }
         };
-        machine.store = store(random);
+        let length = random.lent_length();
+        machine.store = random.cells(length);
         if random.one_in(6) {
             let length = random.below(12);
             machine.memory = random.cells(length);
@@ -118,6 +124,10 @@ fn of_foreign_machines() {
             machine.depth = 60 + random.below(10) as u64;
         }
         let budget = random.budget();
-        assert_eq!(machine.preview(budget), machine.by_interpreter(budget), "{seed}");
+        let got = machine.preview(budget);
+        assert_eq!(got, machine.by_interpreter(budget), "{seed}");
+        if let (Answer::Gives(_), _) = got {
+            assert_eq!(got, machine.run(budget), "{seed}");
+        }
     });
 }

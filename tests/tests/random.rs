@@ -17,7 +17,7 @@ fn read() {
 #[test]
 fn run_source() {
     seeds::for_each(SEEDS, |text, random, seed| {
-        let length = if random.one_in(20) { random.below(130) } else { 64 };
+        let length = random.lent_length();
         let start = random.cells(length);
         let budget = random.budget();
         let (mut proved, mut simple) = (start.clone(), start);
@@ -25,12 +25,6 @@ fn run_source() {
         assert_eq!(got, matching::ran(model::run_source(text, &mut simple, budget)), "{seed}");
         assert_eq!(proved, simple, "{seed}");
     });
-}
-
-/// A table that is 64 bytes long most of the time.
-fn table_bytes(random: &mut Random) -> Vec<u8> {
-    let length = if random.one_in(20) { random.below(130) } else { 64 };
-    random.bytes(length)
 }
 
 #[test]
@@ -44,7 +38,8 @@ fn assemble_and_compile() {
         assert_eq!(got, matching::sizes(model::assemble(text, &mut simple)), "{seed}");
         assert_eq!(proved, simple, "{seed}");
 
-        let lent = table_bytes(random);
+        let length = random.lent_length();
+        let lent = random.bytes(length);
         let (mut code, mut table) = (start.clone(), lent.clone());
         let (mut simple_code, mut simple_table) = (start, lent);
         let got = calls::compile(text, &mut code, &mut table);

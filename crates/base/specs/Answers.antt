@@ -1,4 +1,5 @@
--- What a public call answers, and the form of its refusals (document 01, "When a call declines").
+-- What a public call answers, and the form of its refusals (document 01, "When a call declines") and of previews
+-- (document 02, W3).
 use Prim.Native.Nat.{ℕ}
 use mathlib.Core.Bool.{Bool, true, false}
 use mathlib.Core.List.{List}

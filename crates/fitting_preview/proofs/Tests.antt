@@ -1,5 +1,5 @@
 -- The preview's tests: the answer to which each of the code's tests leads, and what holds where it is a number of records.
-use mathlib.Core.Path.{_≡_, refl, sym, subst, _∙_}
+use mathlib.Core.Path.{_≡_, refl, ap, _∙_}
 use Prim.Native.Nat.{ℕ, _≤_}
 use native.Mathlib.Omega.{arith}
 use mathlib.Core.Bool.{true, false}
@@ -13,7 +13,7 @@ use Rattle.source.specs.Rules.{Store}
 use Rattle.record.specs.Records.{MachineCode}
 use Rattle.record.specs.Bytes.{whole-records}
 use Rattle.machine.specs.Calls.{machine-tests}
-use Rattle.machine.proofs.Calls.{number-given, MachineFound, machine-passed}
+use Rattle.machine.proofs.Calls.{number-given, machine-passed}
 use Rattle.compile.specs.Table.{named-in}
 use Rattle.fitting.specs.Calls.{table-tests, preview-tests}
 use Rattle.fitting.proofs.Calls.{PreviewPassed, preview-passed, pod-passed}
@@ -43,21 +43,25 @@ module _ (code : List ℕ) (memory : List ℤ) (D : ℕ) (t : List ℕ) (store :
   pub record Tested (last : ℕ) : Type 0 where
     pub records : MachineCode
     pub passes : PreviewPassed code memory D t store records
-    pub found : MachineFound code memory D (named-in t) last
+    pub all : length records ≡ last
 
   pub tested : {last : ℕ} → tests ≡ gives last → Tested last
   tested e =
       let x = needed (preview-tests code memory D t store) _ e in
-      let p = preview-passed code memory D t store (x .given) in
       record {
         records = x .value;
-        passes = p;
-        found = machine-passed code memory D (named-in t) (p .records) (gives-one _ _ (x .then-gives));
+        passes = preview-passed code memory D t store (x .given);
+        all = gives-one _ _ (x .then-gives);
       }
 
-  -- what was found of the memory is found of its copy, and there is room to read back from any memory as long
-  pub in-copy : {last : ℕ} {copy : List ℤ} → Tested last → copy ≡ memory → MachineFound code copy D (named-in t) last
-  in-copy {last} x same = subst (λ (m : List ℤ). MachineFound code m D (named-in t) last) (sym same) (x .found)
+  -- the machine's tests gave it too, of a copy of the memory; and there is room to read back from any memory as long
+  pub in-copy : {last : ℕ} {copy : List ℤ} → Tested last → copy ≡ memory
+      → number-given (machine-tests code copy D (named-in t)) ≡ gives last
+  unfolding and-then
+  in-copy x same =
+      ap (λ m. number-given (machine-tests code m D (named-in t))) same
+      ∙ ap number-given (x .passes .records)
+      ∙ ap gives (x .all)
 
   pub room : {last : ℕ} {cells : List ℤ} → Tested last → length cells ≡ length memory → Fits t store D cells
   room x same = fits (passed t store D memory (pod-passed code memory D t store (x .passes) memory refl)) same
@@ -67,4 +71,6 @@ module _ (code : List ℕ) (memory : List ℤ) (D : ℕ) (t : List ℕ) (store :
   store-cells x = tabled t store (x .passes .names) .cells
 
   pub memory-cells : {last : ℕ} → Tested last → length memory ≤ 129
-  memory-cells x = omega (arith, x .found .deep, x .found .small, x .found .cells-are)
+  memory-cells x =
+      let f = machine-passed code memory D (named-in t) (x .passes .records) refl in
+      omega (arith, f .deep, f .small, f .cells-are)

@@ -45,9 +45,9 @@ fn run_on_copy(
         (now (table .entry)) (now (store .entry)) budget ⌝ }
 {
     copy_cells(memory, copy);
-    let halted = machine_run::finish(Machine::fresh(), code, copy, depth, last, budget);
+    let run = machine_run::run_tested(code, copy, depth, last, budget);
     fitting_load::to_store(table, copy, depth, store);
-    halted.answer()
+    run
 }
 
 // What run_machine on a copy of the memory tells, with the table's n, and what read_back from there leaves of a copy of

@@ -152,9 +152,10 @@ module _ (code : List ℕ) (m : List ℤ) (D n : ℕ) where
         cells-are = eqb-true (length m) (D + 1 + n) (small .1);
       }
 
-  pub machine-found : {r : Count} {last : ℕ} → r ≡ Gives last
-      → count-answer r ≡ number-given (machine-tests code m D n) → MachineFound last
-  machine-found is e = let c = counted (machine-tests code m D n) is e in machine-passed (c .1) (c .2)
+  pub machine-found : {last : ℕ} → number-given (machine-tests code m D n) ≡ gives last → MachineFound last
+  machine-found e =
+      let c = needed (machine-tests code m D n) (λ P. gives (length P)) e in
+      machine-passed (c .given) (gives-one _ _ (c .then-gives))
 
   pub machine-declines : (budget : ℕ) {r : Count} {why : Refusal} → r ≡ Refused why
       → count-answer r ≡ number-given (machine-tests code m D n)

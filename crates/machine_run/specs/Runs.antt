@@ -4,7 +4,7 @@ use Prim.Native.Nat.{ℕ, _+_, _-_, _≤_}
 use mathlib.Core.List.{List}
 use lib.IntN.{ℤ}
 use lib.ListN.{length}
-use Rattle.base.specs.Answers.{gives}
+use Rattle.base.specs.Answers.{gives, and-then}
 use Rattle.base.specs.Ends.{Result}
 use Rattle.word.specs.Sums.{sum32}
 use Rattle.record.specs.Records.{MachineCode}
@@ -12,8 +12,13 @@ use Rattle.record.specs.Bytes.{machine-kind, records-from}
 use Rattle.machine.specs.Machine as Rules
 use Rattle.machine.specs.Machine.{run}
 use Rattle.machine.specs.Memories.{machine-cells}
+use Rattle.machine.specs.Calls.{machine-tests}
 use Rattle.machine_step.specs.Code.{machine-of}
 use Rattle.machine_step.specs.declared.Machine.{Machine}
+
+-- The tests gave this many records
+abbrev pub Tested : List ℕ → List ℤ → ℕ → ℕ → ℕ → Type 0
+Tested code m D n last = and-then (machine-tests code m D n) (λ P. gives (length P)) ≡ gives last
 
 -- A run is the run of the code's records, with the ticks that the count leaves of the budget
 abbrev pub Runs : Machine → ℕ → ℕ → List ℕ → List ℤ → ℕ → Result (Rules.Machine (List ℤ)) → Type 0

@@ -9,7 +9,7 @@ use machine_step::Step;
 use record_test::Kind;
 ghost use mathlib.Core.Path.{_≡_};
 ghost use mathlib.Core.Bool.{_&&_};
-ghost use Prim.Native.Nat.{_+_, _≤_};
+ghost use Prim.Native.Nat.{ℕ, _+_, _≤_};
 ghost use lib.Dec.{leb, eqb};
 ghost use lib.ListN.{length};
 ghost use Rattle.base.specs.Answers.{gives, and-then};
@@ -17,7 +17,7 @@ ghost use Rattle.base.specs.Code.{run-answer, count-answer};
 ghost use Rattle.machine.specs.Calls.{machine-tests, run-machine};
 ghost use Rattle.machine_step.specs.Code.{halted-result};
 ghost use Rattle.machine_step.specs.Steps.{MachinePassed};
-ghost use Rattle.machine_run.specs.Runs.{Runs, Starts};
+ghost use Rattle.machine_run.specs.Runs.{Tested, Runs, Starts};
 
 // Refusal 11's test: D and n at most 64, and D + 1 + n cells.
 fn memory_fits(length: usize, depth: u64, cells: u64) -> bool
@@ -53,7 +53,7 @@ pub fn test(code: &[u8], memory: &[i32], depth: u64, cells: u64) -> Count
 
 // Steps until the run ends, from a machine in code that ends at position `last`, over memory whose first `depth` cells
 // are its stack's.
-pub fn finish(
+fn finish(
     first: Machine,
     code: &[u8],
     memory: &mut [i32],
@@ -92,6 +92,16 @@ pub fn finish(
     }
 }
 
+// Runs the `last` records of code that passed the tests, from a fresh machine.
+pub fn run_tested(code: &[u8], memory: &mut [i32], depth: usize, last: usize, budget: u32) -> Run
+    requires { ⌜ ((n : ℕ) × Tested (now code) (now memory) depth n last) ⌝ }
+    ensures { λ r. ⌜ ((n : ℕ) → Tested (now (code .entry)) (now (memory .entry)) depth n last
+        → (run-answer r, now (memory .exit))
+        ≡ run-machine (now (code .entry)) (now (memory .entry)) depth n budget) ⌝ }
+{
+    finish(Machine::fresh(), code, memory, depth, last, budget).answer()
+}
+
 // Runs machine code from a fresh machine, over memory with D = `depth` stack cells and n = `cells` addresses.
 // Refuses 9, 10, 11, and then leaves the memory untouched.
 pub fn run_machine(code: &[u8], memory: &mut [i32], depth: u64, cells: u64, budget: u32) -> Run
@@ -100,8 +110,6 @@ pub fn run_machine(code: &[u8], memory: &mut [i32], depth: u64, cells: u64, budg
 {
     match test(code, memory, depth, cells) {
         Count::Refused(refusal) => Run::Refused(refusal),
-        Count::Gives(last) => {
-            finish(Machine::fresh(), code, memory, depth as usize, last, budget).answer()
-        }
+        Count::Gives(last) => run_tested(code, memory, depth as usize, last, budget),
     }
 }
