@@ -6,6 +6,7 @@ mod executors;
 mod previews;
 mod reader;
 mod runs;
+mod tables;
 mod texts;
 mod timing;
 mod translations;
@@ -40,6 +41,9 @@ fn main() {
     }
     previews::source(&loops, 1_000_000);
     previews::machine(&loops, 1_000_000);
+    tables::test();
+    tables::loading();
+    tables::reading_back();
     translations::texts(&long, &profiles);
     translations::shapes(&texts::shapes());
 }

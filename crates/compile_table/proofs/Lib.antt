@@ -1,3 +1,6 @@
 pub mod Counting
-pub mod Tallying
 pub mod Passing
+pub mod Bits
+pub mod Marks
+pub mod Marking
+pub mod Cases

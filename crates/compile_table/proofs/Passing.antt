@@ -1,5 +1,6 @@
 -- A table that passes: its entries are at most n, and distinct where they are not 0. Each of 1 to n stands in it once,
--- and with the zeros these are all its entries; an entry at two places would stand in it twice.
+-- and with the zeros these are all its entries; an entry at two places would stand in it twice. A table passes where
+-- each of 1 to n stands in it: with the zeros these are all its entries, so none stands in it twice.
 use mathlib.Core.Path.{_≡_, refl, sym, ap, _∙_}
 use mathlib.Core.Bool.{Bool, true, false}
 use mathlib.Core.List.{List, [], _∷_}
@@ -27,6 +28,14 @@ once-at t a (suc k) i e h l = by (eqb (times a t) 1) refl e (λ g m. once-at t (
     by true f g r =
         ⊎-elim (λ (q : a ≡ i). ap (λ j. times j t) (sym q) ∙ eqb-true (times a t) 1 f) (λ q. r g q) (eq-or-lt-of-le h)
     by false f g r = let z : _≡_ {A = ℕ} 0 1 = cc in absurd (omega arith)
+
+-- and the other way.
+once-all : (t : List ℕ) (a k : ℕ) → ((i : ℕ) → a ≤ i → i < a + k → times i t ≡ 1) → once-each t a k ≡ true
+unfolding once-each
+once-all t a zero h = refl
+once-all t a (suc k) h =
+    simp (eq-eqb (times a t) 1 (h a (omega arith) (omega arith)))
+    (once-all t (suc a) k (λ i l m. h i (omega arith) (omega arith)))
 
 -- ---- How many entries are below k
 
@@ -89,6 +98,38 @@ below-once t (suc k) h =
       h (suc k) (omega arith) (omega arith),
     )
 
+-- Where 1 to k stand in a table once at least, the zeros and k more are below k + 1,
+module _ (t : List ℕ) where
+  abbrev Stand : ℕ → Type 0
+  Stand k = (a : ℕ) → 1 ≤ a → a ≤ k → 1 ≤ times a t
+
+  below-stand : (k : ℕ) → Stand k → times 0 t + k ≤ below (suc k) t
+  below-stand zero h = omega (arith, below-suc 0 t)
+  below-stand (suc k) h =
+      omega (
+        arith,
+        below-suc (suc k) t,
+        below-stand k (λ a l m. h a l (omega arith)),
+        h (suc k) (omega arith) (omega arith),
+      )
+
+  -- and one more again for each time that one of them stands there once more.
+  below-twice : (k a : ℕ) → Stand k → 1 ≤ a → a ≤ k → times 0 t + k + times a t ≤ suc (below (suc k) t)
+  below-twice zero a h l m = absurd (omega arith)
+  below-twice (suc k) a h l m =
+      let others : Stand k = λ a l m. h a l (omega arith) in
+      ⊎-elim
+      (λ (q : a ≡ suc k). omega (arith, below-suc (suc k) t, below-stand k others, ap (λ i. times i t) q))
+      (λ q. omega (arith, below-suc (suc k) t, below-twice k a others l (omega arith), h (suc k) (omega arith) (omega arith)))
+      (eq-or-lt-of-le m)
+
+  -- More entries are below more.
+  below-up : (k a : ℕ) → k ≤ a → below k t ≤ below a t
+  below-up k zero h = let none : k ≡ 0 = omega arith in rw none (omega arith)
+  below-up k (suc a) h =
+      ⊎-elim (λ (q : k ≡ suc a). rw q (omega arith)) (λ q. omega (arith, below-suc a t, below-up k a (omega arith)))
+      (eq-or-lt-of-le h)
+
 -- ---- Where an entry stands
 
 -- An entry at one place counts one at least,
@@ -117,16 +158,21 @@ times-two a (x ∷ t) (suc v) (suc w) l h e f = by (eqb x a) (times-two a t v w 
 -- ---- A table that passes
 
 module _ (t : List ℕ) (passes : is-table t ≡ true) where
-  once : (a : ℕ) → 1 ≤ a → a ≤ named-in t → times a t ≡ 1
+  pub once : (a : ℕ) → 1 ≤ a → a ≤ named-in t → times a t ≡ 1
   once a low high = once-at t 1 (named-in t) a passes low (omega arith)
+
+  all-below : below (suc (named-in t)) t ≡ length t
+  all-below = omega (arith, below-once t (named-in t) once, times-most 0 t)
+
+  -- Nothing above n stands in it.
+  pub absent : (a : ℕ) → named-in t < a → times a t ≡ 0
+  absent a h = omega (arith, all-below, below-up t (suc (named-in t)) a h, below-suc a t, below-most (suc a) t)
 
   -- Its entries are at most n,
   pub entries-most : (v : ℕ) → getD t v 0 ≤ named-in t
   entries-most v =
       elim (decLt v (length t)) [
-        | yes l ↦
-            let all : times 0 t + named-in t ≡ length t = omega (arith, times-most 0 t) in
-            omega (arith, below-all (suc (named-in t)) t v (below-once t (named-in t) once ∙ all) l)
+        | yes l ↦ omega (arith, below-all (suc (named-in t)) t v all-below l)
         | no l ↦ omega (arith, List·getD-eq-default t 0 {n = v} (omega arith))
       ]
 
@@ -147,3 +193,16 @@ module _ (t : List ℕ) (passes : is-table t ≡ true) where
         | no l ↦
             elim (decLt w v) [ yes m ↦ absurd (apart w v m (omega arith) (sym e)) | no m ↦ omega arith ]
       ]
+
+-- Where each of 1 to n stands in a table, it passes.
+pub stand-passes : (t : List ℕ) → Stand t (named-in t) → is-table t ≡ true
+stand-passes t h =
+    once-all t 1 (named-in t)
+    (λ a l m.
+    omega (
+      arith,
+      h a l (omega arith),
+      below-twice t (named-in t) a h l (omega arith),
+      below-most (suc (named-in t)) t,
+      times-most 0 t,
+    ))

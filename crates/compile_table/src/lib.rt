@@ -2,13 +2,13 @@
 use record::Address;
 use record::Variable;
 ghost use mathlib.Core.Path.{_≡_};
-ghost use Prim.Native.Nat.{ℕ, _<_, min};
-ghost use lib.ListN.{length, getD, replicate};
-ghost use Rattle.compile.specs.Table.{times, named-in};
+ghost use Prim.Native.Nat.{_<_, _≤_};
+ghost use lib.ListN.{length, getD};
+ghost use Rattle.compile_table.specs.Marks as Marks;
 ghost use Rattle.compile_table.specs.Tested.{tested};
 
-// The entries that a byte can be.
-const BYTE_VALUES: usize = 256;
+// The bits of a word, one for each address that a table can name.
+const WORD_BITS: usize = 64;
 
 // What the test of a table finds: how many variables it names, or that it is no table.
 pub enum Named {
@@ -34,51 +34,39 @@ pub fn variable_of(inverse: &[u8], address: Address) -> Variable
     Variable(inverse[a] as usize)
 }
 
-// How many entries of a table are not 0; and, over zeros, how often each of these stands there, up to twice.
-fn tally(table: &[u8], counts: &mut [u8]) -> usize
-    requires { ⌜ now counts ≡ replicate 256 0 ⌝ }
-    ensures { λ r. ⌜ r ≡ named-in (now (table .entry)) ⌝ }
-    ensures { λ _. ⌜ ((a : ℕ) → 0 < a → getD (now (counts .exit)) a 0 ≡ min 2 (times a (now (table .entry)))) ⌝ }
+// A word with its n lowest bits set, and no other; all of them without a shift by the word's width.
+fn lowest(n: usize) -> u64
+    requires { ⌜ n ≤ 64 ⌝ }
+    ensures { λ r. ⌜ r ≡ Marks.lowest n ⌝ }
 {
+    if n == WORD_BITS {
+        return u64::MAX;
+    }
+    (1u64 << n) - 1
+}
+
+// How many variables a table names, if its nonzero entries are 1 to that number, once each. Each address is marked by
+// its bit in one word, which is then looked at as a whole.
+pub fn names(table: &[u8]) -> Named
+    requires { ⌜ length (now table) ≡ 64 ⌝ }
+    ensures { λ r. ⌜ r ≡ tested (now (table .entry)) ⌝ }
+{
+    let mut marks = 0u64;
     let mut n = 0;
-    let mut v = 0;
-    while v < table.len() {
+    let mut v = table.len();
+    while v > 0 {
+        v -= 1;
         let a = table[v] as usize;
-        v += 1;
         if a != 0 {
             n += 1;
-            let count = counts[a];
-            if count < 2 {
-                counts[a] = count + 1;
+            if a <= WORD_BITS {
+                marks |= 1u64 << (a - 1);
             }
         }
     }
-    n
-}
-
-// How often an entry was counted.
-fn count_of(counts: &[u8], entry: usize) -> u8
-    ensures { λ r. ⌜ r ≡ getD (now (counts .entry)) entry 0 ⌝ }
-{
-    if entry < counts.len() {
-        counts[entry]
+    if marks == lowest(n) {
+        Named::Cells(n)
     } else {
-        0
+        Named::NoTable
     }
-}
-
-// How many variables a table names, if its nonzero entries are 1 to that number, once each.
-pub fn names(table: &[u8]) -> Named
-    ensures { λ r. ⌜ r ≡ tested (now (table .entry)) ⌝ }
-{
-    let mut counts = [0u8; BYTE_VALUES];
-    let n = tally(table, &mut counts);
-    let mut a = 0;
-    while a < n {
-        a += 1;
-        if count_of(&counts, a) != 1 {
-            return Named::NoTable;
-        }
-    }
-    Named::Cells(n)
 }

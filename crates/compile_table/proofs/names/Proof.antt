@@ -1,52 +1,18 @@
--- `names` is the table's test. The loop's invariant: the numbers 1 to a were found once each, so the table passes
--- exactly where the numbers after a stand in it once each.
-use mathlib.Core.Path.{_≡_, sym, ap, _∙_}
-use mathlib.Core.Bool.{true, false}
-use mathlib.Core.List.{List}
-use Prim.Native.Nat.{ℕ, _+_, _-_, _<_, _≤_}
+-- `names` is the table's test: one pass gathers the marks and counts the names, and the word is looked at once.
+use mathlib.Core.Path.{sym, _∙_}
+use Prim.Native.Nat.{_-_}
 use native.Mathlib.Omega.{arith}
-use lib.ListN.{length}
 use borrow.Author.Needs.{needs}
-use Rattle.compile.specs.Table.{times, named-in, once-each, is-table}
-use Rattle.compile_table.proofs.Counting.{once-none, once-goes, once-stops, found-table, found-none}
+use Rattle.compile_table.proofs.Marking.{Marked, marked-start, marked-zero, marked-address, marked-above}
+use Rattle.compile_table.proofs.Marking.{marked-passes, marked-fails}
 use Rattle.compile_table.proofs.names.Statement.{statement}
 use Rattle.compile_table.proofs.names.Tie as tie
 
--- The numbers 1 to a of n were found once each
-record Found (t : List ℕ) (n a : ℕ) : Type 0 where
-  all : n ≡ named-in t
-  most : a ≤ n
-  same : once-each t (a + 1) (n - a) ≡ is-table t
-
 abbrev Inv-loop : tie.InvT-loop
-Inv-loop table counts n a₀ a = Found table n a
+Inv-loop table marks₀ n₀ v₀ word n v = Marked table word n v
 
 abbrev μ-loop : tie.MeasureT-loop
-μ-loop table counts n a₀ a = n - a
-
-start : {t : List ℕ} {n : ℕ} → n ≡ named-in t → Found t n 0
-start {t} {n} e =
-    let whole : n - 0 ≡ named-in t = omega arith in
-    record { all = e; most = omega arith; same = ap (once-each t 1) whole }
-
-module _ {t : List ℕ} {n a : ℕ} where
-  -- The next number stands in the table once,
-  next : Found t n a → a < n → times (a + 1) t ≡ 1 → Found t n (a + 1)
-  next f h e =
-      let less : n - (a + 1) ≡ n - a - 1 = omega arith in
-      record {
-        all = f .all;
-        most = omega arith;
-        same = ap (once-each t (a + 1 + 1)) less ∙ sym (once-goes t (a + 1) (n - a) (omega arith) e) ∙ f .same;
-      }
-
-  -- or it does not,
-  fails : Found t n a → a < n → (times (a + 1) t ≡ 1 → ⊥) → is-table t ≡ false
-  fails f h e = sym (f .same) ∙ once-stops t (a + 1) (n - a) (omega arith) e
-
-  -- or there is none.
-  passes : Found t n a → n ≤ a → is-table t ≡ true
-  passes f h = sym (f .same) ∙ once-none t (a + 1) (n - a) (omega arith)
+μ-loop table marks₀ n₀ v₀ word n v = v
 
 pub names-spec : {M : Type 1} → statement M
 names-spec =
@@ -54,29 +20,52 @@ names-spec =
     (tie.spec
     Inv-loop
     μ-loop
+    (λ c. let s : tie.Start Inv-loop μ-loop = search in marked-start (s .args .table .now))
     (λ c. search needs)
-    (λ c κs. search needs)
-    (λ c. let y : tie.After-tally Inv-loop μ-loop = search in start (y .tally .ensures .0))
-    (λ c. search needs)
-    (λ c. search needs)
-    (λ c κs. search needs)
     (λ c.
-    let count : tie.After-count-of Inv-loop μ-loop = search in
     let going : tie.In-loop Inv-loop μ-loop = search in
     let turn : tie.At-loop Inv-loop μ-loop = search in
-    let y : tie.After-tally Inv-loop μ-loop = search in
-    let counted = y .tally .ensures .1 (turn .loop .a + 1) (omega arith) in
-    found-none _
-    (fails (turn .loop .inv) (going .loop-test .taken)
-    (λ e. omega (arith, c .if1 .taken, count .count-of .ensures, counted))))
+    omega (arith, going .loop-test .taken, turn .loop .inv .most))
+    (λ c.
+    let turn : tie.At-loop Inv-loop μ-loop = search in
+    omega (arith, c .shared-slice-known2 .given (turn .loop .v - 1)))
+    (λ c.
+    let turn : tie.At-loop Inv-loop μ-loop = search in
+    let s : tie.Start Inv-loop μ-loop = search in
+    omega (arith, turn .loop .inv .named, s .pre))
+    (λ c. search needs)
+    (λ c. search needs)
     (λ c. search needs)
     (λ c.
-    let count : tie.After-count-of Inv-loop μ-loop = search in
+    let other : tie.Then1 Inv-loop μ-loop = search in
     let going : tie.In-loop Inv-loop μ-loop = search in
     let turn : tie.At-loop Inv-loop μ-loop = search in
-    let y : tie.After-tally Inv-loop μ-loop = search in
-    let counted = y .tally .ensures .1 (turn .loop .a + 1) (omega arith) in
-    next (turn .loop .inv) (going .loop-test .taken) (omega (arith, c .if1 .left, count .count-of .ensures, counted)))
+    marked-address (turn .loop .inv) (going .loop-test .taken) (other .if1 .taken)
+    (omega (arith, c .if2 .taken)))
+    (λ c. search needs)
     (λ c.
+    let other : tie.Then1 Inv-loop μ-loop = search in
+    let going : tie.In-loop Inv-loop μ-loop = search in
     let turn : tie.At-loop Inv-loop μ-loop = search in
-    found-table _ (turn .loop .inv .all) (passes (turn .loop .inv) (c .loop-test .left))))
+    marked-above (turn .loop .inv) (going .loop-test .taken) (other .if1 .taken) (c .if2 .left))
+    (λ c. search needs)
+    (λ c.
+    let going : tie.In-loop Inv-loop μ-loop = search in
+    let turn : tie.At-loop Inv-loop μ-loop = search in
+    marked-zero (turn .loop .inv) (going .loop-test .taken) (c .if1 .left))
+    (λ c κs.
+    let turn : tie.At-loop Inv-loop μ-loop = search in
+    let s : tie.Start Inv-loop μ-loop = search in
+    omega (arith, turn .loop .inv .named, s .pre))
+    (λ c.
+    let l : tie.After-lowest Inv-loop μ-loop = search in
+    let end : tie.After-loop Inv-loop μ-loop = search in
+    let turn : tie.At-loop Inv-loop μ-loop = search in
+    let s : tie.Start Inv-loop μ-loop = search in
+    marked-passes (turn .loop .inv) (end .loop-test .left) (s .pre) (omega (arith, c .if3 .taken, l .lowest .ensures)))
+    (λ c.
+    let l : tie.After-lowest Inv-loop μ-loop = search in
+    let end : tie.After-loop Inv-loop μ-loop = search in
+    let turn : tie.At-loop Inv-loop μ-loop = search in
+    let s : tie.Start Inv-loop μ-loop = search in
+    marked-fails (turn .loop .inv) (end .loop-test .left) (s .pre) (λ e. omega (arith, e, c .if3 .left, l .lowest .ensures))))
