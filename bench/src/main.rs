@@ -20,6 +20,7 @@ fn loops() {
     runs::source(&loops, LONG_RUN);
     runs::assembly(&loops, LONG_RUN);
     runs::machine("machine code, ns per record", &loops, LONG_RUN);
+    tables::test();
 }
 
 fn main() {
@@ -41,7 +42,6 @@ fn main() {
     }
     previews::source(&loops, 1_000_000);
     previews::machine(&loops, 1_000_000);
-    tables::test();
     tables::loading();
     tables::reading_back();
     translations::texts(&long, &profiles);

@@ -10,7 +10,7 @@ use lib.ListN.{length, getD, drop, drop-of-length-le}
 use lib.Seq.{drop-cons}
 use borrow.Author.Tests.{eq-eqb, ne-eqb, lt-ltb, le-ltb}
 use Rattle.compile.specs.Table.{times, named-in, is-table}
-use Rattle.compile_table.specs.Marks.{mark, marks, lowest}
+use Rattle.compile_table.specs.Marks.{address-bit, marks, lowest}
 use Rattle.compile_table.specs.Tested.{tested}
 use Rattle.compile_table.specs.declared.Named.the-variants.{Cells, NoTable}
 use Rattle.compile_table.proofs.Bits.{one-shifted}
@@ -44,13 +44,13 @@ module _ {t : List ℕ} {word n v : ℕ} (i : Marked t word n v) (h : 0 < v) whe
 
   -- The next entry is 0,
   pub marked-zero : x ≡ 0 → Marked t word n (v - 1)
-  unfolding times marks mark
+  unfolding times marks address-bit
   marked-zero e =
       let one-more : times 0 (drop (v - 1) t) ≡ suc (times 0 (drop v t)) =
       ap (times 0) next ∙ simp (eq-eqb x 0 e) refl in
       record {
         most = omega (arith, i .most);
-        marked = i .marked ∙ sym (ap marks next ∙ ap (λ a. bitOr (mark a) (marks (drop v t))) e);
+        marked = i .marked ∙ sym (ap marks next ∙ ap (λ a. bitOr (address-bit a) (marks (drop v t))) e);
         named = omega (arith, i .named, one-more);
       }
 
@@ -66,22 +66,22 @@ module _ {t : List ℕ} {word n v : ℕ} (i : Marked t word n v) (h : 0 < v) whe
 
     -- or an address,
     pub marked-address : x ≤ 64 → Marked t (bitOr word (1 * 2 ^ (x - 1) % 2 ^ 64)) (n + 1) (v - 1)
-    unfolding marks mark
+    unfolding marks address-bit
     marked-address l =
         let low : x - 1 < 64 = omega (arith, e) in
-        let shifted : 1 * 2 ^ (x - 1) % 2 ^ 64 ≡ mark x =
-        one-shifted (x - 1) low ∙ sym (ap mark (sym before) ∙ simp (lt-ltb (x - 1) 64 low) refl) in
+        let shifted : 1 * 2 ^ (x - 1) % 2 ^ 64 ≡ address-bit x =
+        one-shifted (x - 1) low ∙ sym (ap address-bit (sym before) ∙ simp (lt-ltb (x - 1) 64 low) refl) in
         record {
           most = omega (arith, i .most);
-          marked = ap₂ bitOr (i .marked) shifted ∙ or-comm (marks (drop v t)) (mark x) ∙ sym (ap marks next);
+          marked = ap₂ bitOr (i .marked) shifted ∙ or-comm (marks (drop v t)) (address-bit x) ∙ sym (ap marks next);
           named = one-more-named;
         }
 
     -- or above 64.
     pub marked-above : 64 < x → Marked t word (n + 1) (v - 1)
-    unfolding marks mark
+    unfolding marks address-bit
     marked-above l =
-        let none : mark x ≡ 0 = ap mark (sym before) ∙ simp (le-ltb (x - 1) 64 (omega (arith, e))) refl in
+        let none : address-bit x ≡ 0 = ap address-bit (sym before) ∙ simp (le-ltb (x - 1) 64 (omega (arith, e))) refl in
         record {
           most = omega (arith, i .most);
           marked = i .marked ∙ sym (ap marks next ∙ ap (λ w. bitOr w (marks (drop v t))) none);

@@ -3,35 +3,35 @@ use mathlib.Core.Path.{_≡_, refl, sym, ap, _∙_}
 use mathlib.Core.Bool.{Bool, true, false, _||_}
 use mathlib.Core.List.{List, [], _∷_}
 use Prim.Native.Nat.{ℕ, zero, suc, _^_, _≤_, _<_}
+use native.Mathlib.Nat.{lt-of-lt-of-le}
 use native.Mathlib.Decide.{decLt}
 use native.Mathlib.Omega.{arith}
 use lib.Bits.{or-lt}
 use lib.Dec.{eqb, ltb, lit<, eqb·zero-suc, eqb·suc-suc}
 use lib.ListN.{length}
 use lib.Pow.{pow-lt, pow-mono, ones-lt}
-use native.Mathlib.Nat.{lt-of-lt-of-le}
 use borrow.Author.Tests.{ltb-true, ltb-false, lt-ltb, le-ltb, ne-eqb}
 use Rattle.base.specs.Acts.{if_then_else_}
 use Rattle.compile.specs.Table.{times, named-in, is-table}
-use Rattle.compile_table.specs.Marks.{mark, marks, bit, lowest, WordTest}
+use Rattle.compile_table.specs.Marks.{address-bit, marks, bit, lowest, WordTest}
 use Rattle.compile_table.proofs.Bits.{bit-none, bit-power, bit-or, bit-past, bit-lowest, same-bits}
 use Rattle.compile_table.proofs.Passing.{once, absent, stand-passes}
 
--- ---- An entry's mark
+-- ---- An entry's bit
 
-mark-small : (x : ℕ) → mark x < 2 ^ 64
-unfolding mark
-mark-small zero = lit< tt
-mark-small (suc b) = by (ltb b 64) refl
+address-bit-small : (x : ℕ) → address-bit x < 2 ^ 64
+unfolding address-bit
+address-bit-small zero = lit< tt
+address-bit-small (suc b) = by (ltb b 64) refl
   where
     by : (c : Bool) → ltb b 64 ≡ c → (if c then 2 ^ b else 0) < 2 ^ 64
     by true e = pow-lt (ltb-true b 64 e)
     by false e = lit< tt
 
-mark-bit : (x b : ℕ) → b < 64 → bit (mark x) b ≡ eqb x (suc b)
-unfolding mark
-mark-bit zero b h = bit-none b ∙ sym (eqb·zero-suc b)
-mark-bit (suc a) b h = by (ltb a 64) refl
+bit-of-address : (x b : ℕ) → b < 64 → bit (address-bit x) b ≡ eqb x (suc b)
+unfolding address-bit
+bit-of-address zero b h = bit-none b ∙ sym (eqb·zero-suc b)
+bit-of-address (suc a) b h = by (ltb a 64) refl
   where
     by : (c : Bool) → ltb a 64 ≡ c → bit (if c then 2 ^ a else 0) b ≡ eqb (suc a) (suc b)
     by true e = bit-power a b ∙ sym (eqb·suc-suc a b)
@@ -39,18 +39,19 @@ mark-bit (suc a) b h = by (ltb a 64) refl
 
 -- ---- The marks of all entries
 
-pub marks-small : (t : List ℕ) → marks t < 2 ^ 64
+marks-small : (t : List ℕ) → marks t < 2 ^ 64
 unfolding marks
 marks-small [] = lit< tt
-marks-small (x ∷ t) = or-lt 64 (mark x) (marks t) (mark-small x) (marks-small t)
+marks-small (x ∷ t) = or-lt 64 (address-bit x) (marks t) (address-bit-small x) (marks-small t)
 
 marks-bit : (t : List ℕ) (b : ℕ) → b < 64 → bit (marks t) b ≡ ltb 0 (times (suc b) t)
 unfolding marks times
 marks-bit [] b h = bit-none b
-marks-bit (x ∷ t) b h = bit-or (mark x) (marks t) b ∙ by (eqb x (suc b)) (mark-bit x b h) (marks-bit t b h)
+marks-bit (x ∷ t) b h =
+    bit-or (address-bit x) (marks t) b ∙ by (eqb x (suc b)) (bit-of-address x b h) (marks-bit t b h)
   where
-    by : (c : Bool) → bit (mark x) b ≡ c → bit (marks t) b ≡ ltb 0 (times (suc b) t)
-        → (bit (mark x) b || bit (marks t) b) ≡ ltb 0 (if c then suc (times (suc b) t) else times (suc b) t)
+    by : (c : Bool) → bit (address-bit x) b ≡ c → bit (marks t) b ≡ ltb 0 (times (suc b) t)
+        → (bit (address-bit x) b || bit (marks t) b) ≡ ltb 0 (if c then suc (times (suc b) t) else times (suc b) t)
     by true e f = simp e (sym (lt-ltb 0 (suc (times (suc b) t)) (omega arith)))
     by false e f = simp (e, f) refl
 
@@ -70,7 +71,7 @@ stands-set t b l h = marks-bit t b l ∙ lt-ltb 0 (times (suc b) t) h
 
 -- ---- The test
 
-module _ (t : List ℕ) (few : length t ≡ 64) where
+module _ (t : List ℕ) (size : length t ≡ 64) where
   -- The bits of a table that passes are the n lowest,
   bits-lowest : is-table t ≡ true → (b : ℕ) → bit (marks t) b ≡ ltb b (named-in t)
   bits-lowest h b =
@@ -102,15 +103,15 @@ module _ (t : List ℕ) (few : length t ≡ 64) where
       lt-of-lt-of-le (ones-lt (named-in t)) (pow-mono most)
 
 pub word-test : WordTest
-word-test t few =
+word-test t size =
     record {
       one-word = marks-small t;
       marked = λ b. (set-stands t b, λ h. stands-set t b (h .0) (h .1));
-      passes = (bits-lowest t few, lowest-pass t few);
+      passes = (bits-lowest t size, lowest-pass t size);
       as-a-whole = (
         λ h.
-            same-bits 64 (marks t) (lowest (named-in t)) (marks-small t) (lowest-small t few)
-            (λ b. bits-lowest t few h b ∙ sym (bit-lowest (named-in t) b)),
-        λ e. lowest-pass t few (λ b. ap (λ w. bit w b) e ∙ bit-lowest (named-in t) b),
+            same-bits 64 (marks t) (lowest (named-in t)) (marks-small t) (lowest-small t size)
+            (λ b. bits-lowest t size h b ∙ sym (bit-lowest (named-in t) b)),
+        λ e. lowest-pass t size (λ b. ap (λ w. bit w b) e ∙ bit-lowest (named-in t) b),
       );
     }

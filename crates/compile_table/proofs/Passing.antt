@@ -98,11 +98,12 @@ below-once t (suc k) h =
       h (suc k) (omega arith) (omega arith),
     )
 
--- Where 1 to k stand in a table once at least, the zeros and k more are below k + 1,
 module _ (t : List ℕ) where
+  -- 1 to k stand in a table, once at least.
   abbrev Stand : ℕ → Type 0
   Stand k = (a : ℕ) → 1 ≤ a → a ≤ k → 1 ≤ times a t
 
+  -- Then the zeros and k more are below k + 1,
   below-stand : (k : ℕ) → Stand k → times 0 t + k ≤ below (suc k) t
   below-stand zero h = omega (arith, below-suc 0 t)
   below-stand (suc k) h =
@@ -120,7 +121,13 @@ module _ (t : List ℕ) where
       let others : Stand k = λ a l m. h a l (omega arith) in
       ⊎-elim
       (λ (q : a ≡ suc k). omega (arith, below-suc (suc k) t, below-stand k others, ap (λ i. times i t) q))
-      (λ q. omega (arith, below-suc (suc k) t, below-twice k a others l (omega arith), h (suc k) (omega arith) (omega arith)))
+      (λ q.
+      omega (
+        arith,
+        below-suc (suc k) t,
+        below-twice k a others l (omega arith),
+        h (suc k) (omega arith) (omega arith),
+      ))
       (eq-or-lt-of-le m)
 
   -- More entries are below more.

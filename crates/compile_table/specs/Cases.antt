@@ -3,15 +3,15 @@ use mathlib.Core.Path.{_≡_}
 use mathlib.Core.List.{List, [], _∷_, _++_}
 use Prim.Native.Nat.{ℕ, zero, suc}
 use lib.ListN.{replicate}
-use Rattle.compile_table.specs.Marks.{mark, marks}
+use Rattle.compile_table.specs.Marks.{address-bit, marks}
 use Rattle.compile_table.specs.Tested.{tested}
 use Rattle.compile_table.specs.declared.Named.{Named}
 use Rattle.compile_table.specs.declared.Named.the-variants.{Cells, NoTable}
 
 -- "bit a − 1 for address a (an entry above 64 sets none)"
-abbrev pub EntryMarks : Type 0
-EntryMarks = (mark 1 ≡ 1) × (mark 2 ≡ 2) × (mark 3 ≡ 4) × (mark 64 ≡ 9223372036854775808)
-    × (mark 0 ≡ 0) × (mark 65 ≡ 0) × (mark 255 ≡ 0)
+abbrev pub AddressBits : Type 0
+AddressBits = (address-bit 1 ≡ 1) × (address-bit 2 ≡ 2) × (address-bit 3 ≡ 4) × (address-bit 64 ≡ 9223372036854775808)
+    × (address-bit 0 ≡ 0) × (address-bit 65 ≡ 0) × (address-bit 255 ≡ 0)
 
 -- the k numbers from a on
 unfoldable pub numbers : ℕ → ℕ → List ℕ

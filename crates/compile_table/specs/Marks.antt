@@ -10,15 +10,15 @@ use lib.ListN.{length}
 use Rattle.base.specs.Acts.{if_then_else_}
 use Rattle.compile.specs.Table.{times, named-in, is-table}
 
--- "bit a − 1 for address a (an entry above 64 sets none)": a word with an entry's bit
-unfoldable pub mark : ℕ → ℕ
-mark zero = 0
-mark (suc b) = if ltb b 64 then 2 ^ b else 0
+-- "bit a − 1 for address a (an entry above 64 sets none)": a word with this bit alone
+unfoldable pub address-bit : ℕ → ℕ
+address-bit zero = 0
+address-bit (suc b) = if ltb b 64 then 2 ^ b else 0
 
 -- "its marks as bits of one 64-bit word"
 unfoldable pub marks : List ℕ → ℕ
 marks [] = 0
-marks (x ∷ t) = bitOr (mark x) (marks t)
+marks (x ∷ t) = bitOr (address-bit x) (marks t)
 
 -- whether bit b of a word is set; the lowest is bit 0
 unfoldable pub bit : ℕ → ℕ → Bool
@@ -30,14 +30,14 @@ lowest n = 2 ^ n - 1
 
 -- The request's sentence, of a table
 pub record ByWord (t : List ℕ) : Type 0 where
-  -- "one 64-bit word, bit a − 1 for address a"
+  -- "one 64-bit word, bit a − 1 for address a (an entry above 64 sets none)"
   pub one-word : marks t < 2 ^ 64
   pub marked : (b : ℕ) → (bit (marks t) b ≡ true) ↔ ((b < 64) × (1 ≤ times (suc b) t))
-  -- "a table passes exactly when its n lowest bits are set and no other, n counting the nonzero entries";
+  -- "a table passes exactly when its n lowest bits are set and no other, n counting the nonzero entries"
   pub passes : (is-table t ≡ true) ↔ ((b : ℕ) → bit (marks t) b ≡ ltb b (named-in t))
   -- "look at the word as a whole"
   pub as-a-whole : (is-table t ≡ true) ↔ (marks t ≡ lowest (named-in t))
 
--- "for every table"
+-- "for every table" of 64 bytes
 abbrev pub WordTest : Type 0
 WordTest = (t : List ℕ) → length t ≡ 64 → ByWord t

@@ -1,5 +1,4 @@
 -- `names` is the table's test: one pass gathers the marks and counts the names, and the word is looked at once.
-use mathlib.Core.Path.{sym, _∙_}
 use Prim.Native.Nat.{_-_}
 use native.Mathlib.Omega.{arith}
 use borrow.Author.Needs.{needs}
@@ -68,4 +67,5 @@ names-spec =
     let end : tie.After-loop Inv-loop μ-loop = search in
     let turn : tie.At-loop Inv-loop μ-loop = search in
     let s : tie.Start Inv-loop μ-loop = search in
-    marked-fails (turn .loop .inv) (end .loop-test .left) (s .pre) (λ e. omega (arith, e, c .if3 .left, l .lowest .ensures))))
+    marked-fails (turn .loop .inv) (end .loop-test .left) (s .pre)
+    (λ e. omega (arith, e, c .if3 .left, l .lowest .ensures))))
