@@ -1,13 +1,13 @@
 -- Bits of words: of two words together, of a power of 2, of the n lowest; words with the same bits are the same.
 use mathlib.Core.Path.{_≡_, refl, sym, ap, ap₂, _∙_}
-use mathlib.Core.Bool.{false, _||_}
+use mathlib.Core.Bool.{Bool, true, false, _||_}
 use Prim.Native.Nat.{ℕ, zero, suc, _+_, _*_, _/_, _%_, _^_, _<_, _≤_}
 use native.Mathlib.Nat.{mod-lt, div-add-mod', div-one, one-mul, mul-mod-left, mul-div-cancel, pow-suc, zero-lt-suc}
 use native.Mathlib.Nat.{div-eq-of-lt, lt-of-lt-of-le}
 use native.Mathlib.Numerals.{add-one, one-add}
 use native.Mathlib.Omega.{arith}
 use lib.Arith.{digits-div, digits-mod, lt-one}
-use lib.Bits.{bitOr, or-shr, or-mod}
+use lib.Bits.{bitOr, or-lt, or-shr, or-mod}
 use lib.Dec.{eqb, ltb, lit<, eqb·zero-suc, eqb·suc-zero, eqb·suc-suc, leb·zero, leb·suc-zero, leb·suc-suc}
 use lib.Pow.{shl-exact, shr-shr, shr-lt, ones-split, pow-mono}
 use Rattle.compile_table.specs.Marks.{bit, lowest}
@@ -106,3 +106,18 @@ same-bits (suc m) v w p q e =
   where
     half : {x : ℕ} → x < 2 ^ suc m → x / 2 < 2 ^ m
     half h = shr-lt m 1 (rw (add-one m) h)
+
+-- Three words together, whichever two first
+pub or-assoc : (m u v w : ℕ) → u < 2 ^ m → v < 2 ^ m → w < 2 ^ m → bitOr (bitOr u v) w ≡ bitOr u (bitOr v w)
+or-assoc m u v w p q r =
+    same-bits m (bitOr (bitOr u v) w) (bitOr u (bitOr v w)) (or-lt m (bitOr u v) w (or-lt m u v p q) r)
+    (or-lt m u (bitOr v w) p (or-lt m v w q r))
+    (λ b.
+    bit-or (bitOr u v) w b
+    ∙ ap (λ x. x || bit w b) (bit-or u v b)
+    ∙ assoc (bit u b) (bit v b) (bit w b)
+    ∙ sym (bit-or u (bitOr v w) b ∙ ap (λ x. bit u b || x) (bit-or v w b)))
+  where
+    assoc : (x y z : Bool) → ((x || y) || z) ≡ (x || (y || z))
+    assoc true y z = refl
+    assoc false y z = refl

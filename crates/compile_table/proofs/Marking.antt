@@ -1,11 +1,12 @@
--- The pass over a table, from its last entry to its first: the word has the marks of the entries seen, and n of these
--- are not 0.
-use mathlib.Core.Path.{_≡_, refl, sym, ap, ap₂, _∙_}
+-- The pass over a table: the word has the marks of the entries seen, and n of these are not 0.
+use mathlib.Core.Path.{_≡_, refl, sym, ap, _∙_}
 use mathlib.Core.Bool.{Bool, true, false}
 use mathlib.Core.List.{List, _∷_}
 use Prim.Native.Nat.{ℕ, suc, _+_, _-_, _*_, _%_, _^_, _<_, _≤_}
+use native.Mathlib.Numerals.{add-one}
 use native.Mathlib.Omega.{arith}
-use lib.Bits.{bitOr, or-comm}
+use lib.Bits.{bitOr, or-lt, or-zero-r}
+use lib.Dec.{lit<}
 use lib.ListN.{length, getD, drop, drop-of-length-le}
 use lib.Seq.{drop-cons}
 use borrow.Author.Tests.{eq-eqb, ne-eqb, lt-ltb, le-ltb}
@@ -13,91 +14,106 @@ use Rattle.compile.specs.Table.{times, named-in, is-table}
 use Rattle.compile_table.specs.Marks.{address-bit, marks, lowest}
 use Rattle.compile_table.specs.Tested.{tested}
 use Rattle.compile_table.specs.declared.Named.the-variants.{Cells, NoTable}
-use Rattle.compile_table.proofs.Bits.{one-shifted}
+use Rattle.compile_table.proofs.Bits.{one-shifted, or-assoc}
 use Rattle.compile_table.proofs.Counting.{found-table, found-none}
-use Rattle.compile_table.proofs.Marks.{word-test}
+use Rattle.compile_table.proofs.Marks.{address-bit-small, marks-small, word-test}
 
--- The entries from v on are seen.
+-- The entries before v are seen: with the marks of the others the word has those of all.
 pub record Marked (t : List ℕ) (word n v : ℕ) : Type 0 where
   pub most : v ≤ length t
-  pub marked : word ≡ marks (drop v t)
-  pub named : n + v + times 0 (drop v t) ≡ length t
+  pub few : n ≤ v
+  pub fits : word < 2 ^ 64
+  pub marked : bitOr word (marks (drop v t)) ≡ marks t
+  pub named : n + times 0 t ≡ v + times 0 (drop v t)
 
-pub marked-start : (t : List ℕ) → Marked t 0 0 (length t)
-unfolding marks times
-marked-start t =
-    let none = drop-of-length-le t {i = length t} (omega arith) in
-    record {
-      most = omega arith;
-      marked = sym (ap marks none);
-      named = omega (arith, ap (times 0) none);
-    }
+pub marked-start : (t : List ℕ) → Marked t 0 0 0
+marked-start t = record { most = omega arith; few = omega arith; fits = lit< tt; marked = refl; named = refl }
 
-module _ {t : List ℕ} {word n v : ℕ} (i : Marked t word n v) (h : 0 < v) where
+module _ {t : List ℕ} {word n v : ℕ} (i : Marked t word n v) (h : v < length t) where
   abbrev x : ℕ
-  x = getD t (v - 1) 0
+  x = getD t v 0
 
-  next : drop (v - 1) t ≡ x ∷ drop v t
-  next =
-      let before : suc (v - 1) ≡ v = omega arith in
-      drop-cons t (v - 1) 0 (omega (arith, i .most)) ∙ ap (λ k. x ∷ drop k t) before
+  next : drop v t ≡ x ∷ drop (v + 1) t
+  next = drop-cons t v 0 h ∙ ap (λ k. x ∷ drop k t) (sym (add-one v))
 
-  -- The next entry is 0,
-  pub marked-zero : x ≡ 0 → Marked t word n (v - 1)
-  unfolding times marks address-bit
+  -- The next entry's bit is set.
+  with-bit : bitOr (bitOr word (address-bit x)) (marks (drop (v + 1) t)) ≡ marks t
+  unfolding marks
+  with-bit =
+      or-assoc 64 word (address-bit x) (marks (drop (v + 1) t)) (i .fits) (address-bit-small x)
+      (marks-small (drop (v + 1) t))
+      ∙ sym (ap (λ l. bitOr word (marks l)) next)
+      ∙ i .marked
+
+  -- It has none.
+  without-bit : address-bit x ≡ 0 → bitOr word (marks (drop (v + 1) t)) ≡ marks t
+  without-bit e =
+      ap (λ w. bitOr w (marks (drop (v + 1) t))) (sym (or-zero-r word) ∙ ap (bitOr word) (sym e)) ∙ with-bit
+
+  -- It is 0,
+  pub marked-zero : x ≡ 0 → Marked t word n (v + 1)
+  unfolding times address-bit
   marked-zero e =
-      let one-more : times 0 (drop (v - 1) t) ≡ suc (times 0 (drop v t)) =
+      let one-less : times 0 (drop v t) ≡ suc (times 0 (drop (v + 1) t)) =
       ap (times 0) next ∙ simp (eq-eqb x 0 e) refl in
       record {
-        most = omega (arith, i .most);
-        marked = i .marked ∙ sym (ap marks next ∙ ap (λ a. bitOr (address-bit a) (marks (drop v t))) e);
-        named = omega (arith, i .named, one-more);
+        most = omega arith;
+        few = omega (arith, i .few);
+        fits = i .fits;
+        marked = without-bit (ap address-bit e);
+        named = omega (arith, i .named, one-less);
       }
 
   module _ (e : x ≡ 0 → ⊥) where
     before : suc (x - 1) ≡ x
     before = omega (arith, e)
 
-    one-more-named : n + 1 + (v - 1) + times 0 (drop (v - 1) t) ≡ length t
+    one-more-named : n + 1 + times 0 t ≡ v + 1 + times 0 (drop (v + 1) t)
     unfolding times
     one-more-named =
-        let as-many : times 0 (drop (v - 1) t) ≡ times 0 (drop v t) = ap (times 0) next ∙ simp (ne-eqb x 0 e) refl in
+        let as-many : times 0 (drop v t) ≡ times 0 (drop (v + 1) t) = ap (times 0) next ∙ simp (ne-eqb x 0 e) refl in
         omega (arith, i .named, as-many)
 
     -- or an address,
-    pub marked-address : x ≤ 64 → Marked t (bitOr word (1 * 2 ^ (x - 1) % 2 ^ 64)) (n + 1) (v - 1)
-    unfolding marks address-bit
+    pub marked-address : x ≤ 64 → Marked t (bitOr word (1 * 2 ^ (x - 1) % 2 ^ 64)) (n + 1) (v + 1)
+    unfolding address-bit
     marked-address l =
         let low : x - 1 < 64 = omega (arith, e) in
-        let shifted : 1 * 2 ^ (x - 1) % 2 ^ 64 ≡ address-bit x =
-        one-shifted (x - 1) low ∙ sym (ap address-bit (sym before) ∙ simp (lt-ltb (x - 1) 64 low) refl) in
+        let shifted : address-bit x ≡ 1 * 2 ^ (x - 1) % 2 ^ 64 =
+        ap address-bit (sym before) ∙ simp (lt-ltb (x - 1) 64 low) (sym (one-shifted (x - 1) low)) in
         record {
-          most = omega (arith, i .most);
-          marked = ap₂ bitOr (i .marked) shifted ∙ or-comm (marks (drop v t)) (address-bit x) ∙ sym (ap marks next);
+          most = omega arith;
+          few = omega (arith, i .few);
+          fits = rw (sym shifted) (or-lt 64 word (address-bit x) (i .fits) (address-bit-small x));
+          marked = ap (λ w. bitOr (bitOr word w) (marks (drop (v + 1) t))) (sym shifted) ∙ with-bit;
           named = one-more-named;
         }
 
     -- or above 64.
-    pub marked-above : 64 < x → Marked t word (n + 1) (v - 1)
-    unfolding marks address-bit
+    pub marked-above : 64 < x → Marked t word (n + 1) (v + 1)
+    unfolding address-bit
     marked-above l =
-        let none : address-bit x ≡ 0 = ap address-bit (sym before) ∙ simp (le-ltb (x - 1) 64 (omega (arith, e))) refl in
+        let none : address-bit x ≡ 0 =
+        ap address-bit (sym before) ∙ simp (le-ltb (x - 1) 64 (omega (arith, e))) refl in
         record {
-          most = omega (arith, i .most);
-          marked = i .marked ∙ sym (ap marks next ∙ ap (λ w. bitOr w (marks (drop v t))) none);
+          most = omega arith;
+          few = omega (arith, i .few);
+          fits = i .fits;
+          marked = without-bit none;
           named = one-more-named;
         }
 
 -- All are seen: the table passes exactly when the word is that of the n lowest bits.
-module _ {t : List ℕ} {word n v : ℕ} (i : Marked t word n v) (h : v ≤ 0) (size : length t ≡ 64) where
-  all : v ≡ 0
-  all = omega arith
-
+module _ {t : List ℕ} {word n v : ℕ} (i : Marked t word n v) (h : length t ≤ v) (size : length t ≡ 64) where
   count : n ≡ named-in t
-  count = omega (arith, i .named, ap (λ k. times 0 (drop k t)) all)
+  unfolding times
+  count =
+      let none : times 0 (drop v t) ≡ 0 = ap (times 0) (drop-of-length-le t {i = v} h) in
+      omega (arith, i .most, i .named, none)
 
   whole : word ≡ marks t
-  whole = i .marked ∙ ap (λ k. marks (drop k t)) all
+  unfolding marks
+  whole = sym (ap (λ l. bitOr word (marks l)) (drop-of-length-le t {i = v} h) ∙ or-zero-r word) ∙ i .marked
 
   pub marked-passes : word ≡ lowest n → Cells n ≡ tested t
   marked-passes e = found-table t count (word-test t size .as-a-whole .1 (sym whole ∙ e ∙ ap lowest count))

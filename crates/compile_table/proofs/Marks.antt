@@ -19,7 +19,7 @@ use Rattle.compile_table.proofs.Passing.{once, absent, stand-passes}
 
 -- ---- An entry's bit
 
-address-bit-small : (x : ℕ) → address-bit x < 2 ^ 64
+pub address-bit-small : (x : ℕ) → address-bit x < 2 ^ 64
 unfolding address-bit
 address-bit-small zero = lit< tt
 address-bit-small (suc b) = by (ltb b 64) refl
@@ -39,7 +39,7 @@ bit-of-address (suc a) b h = by (ltb a 64) refl
 
 -- ---- The marks of all entries
 
-marks-small : (t : List ℕ) → marks t < 2 ^ 64
+pub marks-small : (t : List ℕ) → marks t < 2 ^ 64
 unfolding marks
 marks-small [] = lit< tt
 marks-small (x ∷ t) = or-lt 64 (address-bit x) (marks t) (address-bit-small x) (marks-small t)

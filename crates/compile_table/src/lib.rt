@@ -53,10 +53,10 @@ pub fn names(table: &[u8]) -> Named
 {
     let mut marks = 0u64;
     let mut n = 0;
-    let mut v = table.len();
-    while v > 0 {
-        v -= 1;
+    let mut v = 0;
+    while v < table.len() {
         let a = table[v] as usize;
+        v += 1;
         if a != 0 {
             n += 1;
             if a <= WORD_BITS {

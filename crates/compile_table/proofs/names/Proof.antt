@@ -1,6 +1,7 @@
 -- `names` is the table's test: one pass gathers the marks and counts the names, and the word is looked at once.
 use Prim.Native.Nat.{_-_}
 use native.Mathlib.Omega.{arith}
+use lib.ListN.{length}
 use borrow.Author.Needs.{needs}
 use Rattle.compile_table.proofs.Marking.{Marked, marked-start, marked-zero, marked-address, marked-above}
 use Rattle.compile_table.proofs.Marking.{marked-passes, marked-fails}
@@ -11,7 +12,7 @@ abbrev Inv-loop : tie.InvT-loop
 Inv-loop table marks₀ n₀ v₀ word n v = Marked table word n v
 
 abbrev μ-loop : tie.MeasureT-loop
-μ-loop table marks₀ n₀ v₀ word n v = v
+μ-loop table marks₀ n₀ v₀ word n v = length table - v
 
 pub names-spec : {M : Type 1} → statement M
 names-spec =
@@ -22,16 +23,12 @@ names-spec =
     (λ c. let s : tie.Start Inv-loop μ-loop = search in marked-start (s .args .table .now))
     (λ c. search needs)
     (λ c.
-    let going : tie.In-loop Inv-loop μ-loop = search in
     let turn : tie.At-loop Inv-loop μ-loop = search in
-    omega (arith, going .loop-test .taken, turn .loop .inv .most))
+    omega (arith, c .shared-slice-known2 .given (turn .loop .v)))
+    (λ c. search needs)
     (λ c.
     let turn : tie.At-loop Inv-loop μ-loop = search in
-    omega (arith, c .shared-slice-known2 .given (turn .loop .v - 1)))
-    (λ c.
-    let turn : tie.At-loop Inv-loop μ-loop = search in
-    let s : tie.Start Inv-loop μ-loop = search in
-    omega (arith, turn .loop .inv .named, s .pre))
+    omega (arith, turn .loop .inv .few))
     (λ c. search needs)
     (λ c. search needs)
     (λ c. search needs)
@@ -55,7 +52,7 @@ names-spec =
     (λ c κs.
     let turn : tie.At-loop Inv-loop μ-loop = search in
     let s : tie.Start Inv-loop μ-loop = search in
-    omega (arith, turn .loop .inv .named, s .pre))
+    omega (arith, turn .loop .inv .few, turn .loop .inv .most, s .pre))
     (λ c.
     let l : tie.After-lowest Inv-loop μ-loop = search in
     let end : tie.After-loop Inv-loop μ-loop = search in
