@@ -5,7 +5,7 @@ use std::hint::black_box;
 use profile_tests::calls::{self, Answer, Ran};
 
 use crate::texts::Text;
-use crate::timing::{heading, medians, repeat, row};
+use crate::timing::{compare, heading};
 use crate::translations::compiled;
 
 /// So many calls take about as long, whatever the budget.
@@ -53,16 +53,4 @@ pub fn machine(texts: &[Text], budget: u32) {
         assert_eq!(preview(), run());
         compare(name, count(run().0), preview, run);
     }
-}
-
-fn compare<T>(name: &str, calls: u32, preview: impl Fn() -> T, run: impl Fn() -> T) {
-    let times = medians([
-        &mut repeat(calls, || {
-            black_box(preview());
-        }),
-        &mut repeat(calls, || {
-            black_box(run());
-        }),
-    ]);
-    row(name, calls, times, "");
 }

@@ -5,7 +5,7 @@ use std::hint::black_box;
 use profile_tests::calls::{self, Answer};
 
 use crate::cursor::Refusal;
-use crate::timing::{heading, medians, repeat, row};
+use crate::timing::{compare, heading};
 
 const CALLS: u32 = 200_000;
 const DEPTH: usize = 64;
@@ -68,19 +68,11 @@ fn table(n: usize) -> [u8; 64] {
     table
 }
 
-fn compare<T, U>(n: usize, mut proved: impl FnMut() -> T, mut plain: impl FnMut() -> U) {
-    let times = medians([
-        &mut repeat(CALLS, || {
-            black_box(proved());
-        }),
-        &mut repeat(CALLS, || {
-            black_box(plain());
-        }),
-    ]);
-    row(&format!("a table of {n} names"), CALLS, times, "");
-}
-
 const NAMES: [usize; 4] = [2, 7, 32, 64];
+
+fn name(n: usize) -> String {
+    format!("a table of {n} names")
+}
 
 /// Loading into no cells declines with 11, which comes right after the table's test.
 pub fn test() {
@@ -90,7 +82,7 @@ pub fn test() {
         let proved = || calls::load(black_box(&table), &store, DEPTH as u64, &mut []);
         let plain = || load(black_box(&table), &store, DEPTH, &mut []);
         assert_eq!((proved(), plain()), (Answer::Refused { number: 11, place: 0 }, Err(Refusal(11, 0))));
-        compare(n, proved, plain);
+        compare(&name(n), CALLS, proved, plain);
     }
 }
 
@@ -100,7 +92,8 @@ pub fn loading() {
         let (table, store) = (table(n), [3; 64]);
         let [mut memory, mut plain_memory] = [vec![7; DEPTH + 1 + n], vec![7; DEPTH + 1 + n]];
         compare(
-            n,
+            &name(n),
+            CALLS,
             || calls::load(black_box(&table), &store, DEPTH as u64, &mut memory),
             || load(black_box(&table), &store, DEPTH, &mut plain_memory),
         );
@@ -114,7 +107,8 @@ pub fn reading_back() {
         let (table, memory) = (table(n), vec![7; DEPTH + 1 + n]);
         let [mut store, mut plain_store] = [[3; 64]; 2];
         compare(
-            n,
+            &name(n),
+            CALLS,
             || calls::read_back(black_box(&table), &memory, DEPTH as u64, &mut store),
             || read_back(black_box(&table), &memory, DEPTH, &mut plain_store),
         );

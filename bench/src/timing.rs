@@ -1,5 +1,7 @@
 //! Times of works done in turn, and the table that they are printed in.
 
+use std::hint::black_box;
+
 extern "C" {
     fn clock_gettime(clock: i32, time: *mut [i64; 2]) -> i32;
 }
@@ -54,4 +56,17 @@ pub fn row<const N: usize>(name: &str, count: u32, times: [f64; N], last: &str) 
         print!("{:>12.2}{:>8.2}", each(*other), times[0] / other);
     }
     println!("{last}");
+}
+
+/// The row of a proved call beside another's, each made so many times.
+pub fn compare<T, U>(name: &str, calls: u32, mut proved: impl FnMut() -> T, mut other: impl FnMut() -> U) {
+    let times = medians([
+        &mut repeat(calls, || {
+            black_box(proved());
+        }),
+        &mut repeat(calls, || {
+            black_box(other());
+        }),
+    ]);
+    row(name, calls, times, "");
 }

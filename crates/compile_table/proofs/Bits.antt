@@ -14,11 +14,11 @@ use Rattle.compile_table.specs.Marks.{bit, lowest}
 
 -- ---- The lowest bit, and the others
 
-pub bit-first : (w : ℕ) → bit w 0 ≡ eqb (w % 2) 1
+bit-first : (w : ℕ) → bit w 0 ≡ eqb (w % 2) 1
 unfolding bit
 bit-first w = ap (λ (x : ℕ). eqb (x % 2) 1) (div-one w)
 
-pub bit-next : (w b : ℕ) → bit w (suc b) ≡ bit (w / 2) b
+bit-next : (w b : ℕ) → bit w (suc b) ≡ bit (w / 2) b
 unfolding bit
 bit-next w b =
     ap (λ (x : ℕ). eqb (x % 2) 1) (ap (λ (k : ℕ). w / 2 ^ k) (sym (one-add b)) ∙ sym (shr-shr w 1 b))

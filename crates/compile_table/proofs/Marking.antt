@@ -36,7 +36,7 @@ module _ {t : List ℕ} {word n v : ℕ} (i : Marked t word n v) (h : v < length
   next : drop v t ≡ x ∷ drop (v + 1) t
   next = drop-cons t v 0 h ∙ ap (λ k. x ∷ drop k t) (sym (add-one v))
 
-  -- The next entry's bit is set.
+  -- The next entry: its bit is set,
   with-bit : bitOr (bitOr word (address-bit x)) (marks (drop (v + 1) t)) ≡ marks t
   unfolding marks
   with-bit =
@@ -45,12 +45,12 @@ module _ {t : List ℕ} {word n v : ℕ} (i : Marked t word n v) (h : v < length
       ∙ sym (ap (λ l. bitOr word (marks l)) next)
       ∙ i .marked
 
-  -- It has none.
+  -- or it has none.
   without-bit : address-bit x ≡ 0 → bitOr word (marks (drop (v + 1) t)) ≡ marks t
   without-bit e =
       ap (λ w. bitOr w (marks (drop (v + 1) t))) (sym (or-zero-r word) ∙ ap (bitOr word) (sym e)) ∙ with-bit
 
-  -- It is 0,
+  -- The entry is 0,
   pub marked-zero : x ≡ 0 → Marked t word n (v + 1)
   unfolding times address-bit
   marked-zero e =
