@@ -1,6 +1,5 @@
 -- The pass over a table: the word has the marks of the entries seen, and n of these are not 0.
 use mathlib.Core.Path.{_≡_, refl, sym, ap, _∙_}
-use mathlib.Core.Bool.{Bool, true, false}
 use mathlib.Core.List.{List, _∷_}
 use Prim.Native.Nat.{ℕ, suc, _+_, _-_, _*_, _%_, _^_, _<_, _≤_}
 use native.Mathlib.Numerals.{add-one}
@@ -10,26 +9,23 @@ use lib.Dec.{lit<}
 use lib.ListN.{length, getD, drop, drop-of-length-le}
 use lib.Seq.{drop-cons}
 use borrow.Author.Tests.{eq-eqb, ne-eqb, lt-ltb, le-ltb}
-use Rattle.compile.specs.Table.{times, named-in, is-table}
-use Rattle.compile_table.specs.Marks.{address-bit, marks, lowest}
-use Rattle.compile_table.specs.Tested.{tested}
-use Rattle.compile_table.specs.declared.Named.the-variants.{Cells, NoTable}
+use Rattle.compile.specs.Table.{times, named-in}
+use Rattle.compile_table.specs.Marks.{address-bit, marks}
 use Rattle.compile_table.proofs.Bits.{one-shifted, or-assoc}
-use Rattle.compile_table.proofs.Counting.{found-table, found-none}
-use Rattle.compile_table.proofs.Marks.{address-bit-small, marks-small, word-test}
+use Rattle.compile_table.proofs.Marks.{address-bit-small, marks-small}
 
 -- The entries before v are seen: with the marks of the others the word has those of all.
-pub record Marked (t : List ℕ) (word n v : ℕ) : Type 0 where
+pub record Seen (t : List ℕ) (word n v : ℕ) : Type 0 where
   pub most : v ≤ length t
   pub few : n ≤ v
   pub fits : word < 2 ^ 64
   pub marked : bitOr word (marks (drop v t)) ≡ marks t
   pub named : n + times 0 t ≡ v + times 0 (drop v t)
 
-pub marked-start : (t : List ℕ) → Marked t 0 0 0
-marked-start t = record { most = omega arith; few = omega arith; fits = lit< tt; marked = refl; named = refl }
+pub seen-start : (t : List ℕ) → Seen t 0 0 0
+seen-start t = record { most = omega arith; few = omega arith; fits = lit< tt; marked = refl; named = refl }
 
-module _ {t : List ℕ} {word n v : ℕ} (i : Marked t word n v) (h : v < length t) where
+module _ {t : List ℕ} {word n v : ℕ} (i : Seen t word n v) (h : v < length t) where
   abbrev x : ℕ
   x = getD t v 0
 
@@ -51,9 +47,9 @@ module _ {t : List ℕ} {word n v : ℕ} (i : Marked t word n v) (h : v < length
       ap (λ w. bitOr w (marks (drop (v + 1) t))) (sym (or-zero-r word) ∙ ap (bitOr word) (sym e)) ∙ with-bit
 
   -- The entry is 0,
-  pub marked-zero : x ≡ 0 → Marked t word n (v + 1)
+  pub seen-zero : x ≡ 0 → Seen t word n (v + 1)
   unfolding times address-bit
-  marked-zero e =
+  seen-zero e =
       let one-less : times 0 (drop v t) ≡ suc (times 0 (drop (v + 1) t)) =
       ap (times 0) next ∙ simp (eq-eqb x 0 e) refl in
       record {
@@ -75,9 +71,9 @@ module _ {t : List ℕ} {word n v : ℕ} (i : Marked t word n v) (h : v < length
         omega (arith, i .named, as-many)
 
     -- or an address,
-    pub marked-address : x ≤ 64 → Marked t (bitOr word (1 * 2 ^ (x - 1) % 2 ^ 64)) (n + 1) (v + 1)
+    pub seen-address : x ≤ 64 → Seen t (bitOr word (1 * 2 ^ (x - 1) % 2 ^ 64)) (n + 1) (v + 1)
     unfolding address-bit
-    marked-address l =
+    seen-address l =
         let low : x - 1 < 64 = omega (arith, e) in
         let shifted : address-bit x ≡ 1 * 2 ^ (x - 1) % 2 ^ 64 =
         ap address-bit (sym before) ∙ simp (lt-ltb (x - 1) 64 low) (sym (one-shifted (x - 1) low)) in
@@ -90,9 +86,9 @@ module _ {t : List ℕ} {word n v : ℕ} (i : Marked t word n v) (h : v < length
         }
 
     -- or above 64.
-    pub marked-above : 64 < x → Marked t word (n + 1) (v + 1)
+    pub seen-above : 64 < x → Seen t word (n + 1) (v + 1)
     unfolding address-bit
-    marked-above l =
+    seen-above l =
         let none : address-bit x ≡ 0 =
         ap address-bit (sym before) ∙ simp (le-ltb (x - 1) 64 (omega (arith, e))) refl in
         record {
@@ -103,26 +99,12 @@ module _ {t : List ℕ} {word n v : ℕ} (i : Marked t word n v) (h : v < length
           named = one-more-named;
         }
 
--- All are seen: the table passes exactly when the word is that of the n lowest bits.
-module _ {t : List ℕ} {word n v : ℕ} (i : Marked t word n v) (h : length t ≤ v) (size : length t ≡ 64) where
-  count : n ≡ named-in t
-  unfolding times
-  count =
-      let none : times 0 (drop v t) ≡ 0 = ap (times 0) (drop-of-length-le t {i = v} h) in
-      omega (arith, i .most, i .named, none)
-
-  whole : word ≡ marks t
-  unfolding marks
-  whole = sym (ap (λ l. bitOr word (marks l)) (drop-of-length-le t {i = v} h) ∙ or-zero-r word) ∙ i .marked
-
-  pub marked-passes : word ≡ lowest n → Cells n ≡ tested t
-  marked-passes e = found-table t count (word-test t size .as-a-whole .1 (sym whole ∙ e ∙ ap lowest count))
-
-  pub marked-fails : (word ≡ lowest n → ⊥) → NoTable ≡ tested t
-  marked-fails e =
-      found-none t
-      (by (is-table t) (λ p. e (whole ∙ word-test t size .as-a-whole .0 p ∙ sym (ap lowest count))))
-    where
-      by : (b : Bool) → (b ≡ true → ⊥) → b ≡ false
-      by true e = absurd (e refl)
-      by false e = refl
+-- All are seen.
+pub seen-all : {t : List ℕ} {word n v : ℕ} → Seen t word n v → length t ≤ v → (word ≡ marks t) × (n ≡ named-in t)
+unfolding marks times
+seen-all {t} {word} {v = v} i h =
+    let none = drop-of-length-le t {i = v} h in
+    let zeros : times 0 (drop v t) ≡ 0 = ap (times 0) none in (
+      sym (ap (λ l. bitOr word (marks l)) none ∙ or-zero-r word) ∙ i .marked,
+      omega (arith, i .most, i .named, zeros),
+    )

@@ -4,6 +4,7 @@ use record::Variable;
 ghost use mathlib.Core.Path.{_≡_};
 ghost use Prim.Native.Nat.{_<_, _≤_};
 ghost use lib.ListN.{length, getD};
+ghost use Rattle.compile.specs.Table.{named-in};
 ghost use Rattle.compile_table.specs.Marks as Marks;
 ghost use Rattle.compile_table.specs.Tested.{tested};
 
@@ -14,6 +15,12 @@ const WORD_BITS: usize = 64;
 pub enum Named {
     Cells(usize),
     NoTable,
+}
+
+// What one pass over a table gathers: its marks, and how many of its entries are not 0.
+struct Marked {
+    word: u64,
+    count: usize,
 }
 
 // The address that a table gives to a variable, 0 if it is unnamed.
@@ -45,13 +52,11 @@ fn lowest(n: usize) -> u64
     (1u64 << n) - 1
 }
 
-// How many variables a table names, if its nonzero entries are 1 to that number, once each. Each address is marked by
-// its bit in one word, which is then looked at as a whole.
-pub fn names(table: &[u8]) -> Named
-    requires { ⌜ length (now table) ≡ 64 ⌝ }
-    ensures { λ r. ⌜ r ≡ tested (now (table .entry)) ⌝ }
+// Marks each address of a table in one word: bit a - 1 for address a, none for an entry above 64.
+fn mark_all(table: &[u8]) -> Marked
+    ensures { λ r. ⌜ (r .word ≡ Marks.marks (now (table .entry))) × (r .count ≡ named-in (now (table .entry))) ⌝ }
 {
-    let mut marks = 0u64;
+    let mut word = 0u64;
     let mut n = 0;
     let mut v = 0;
     while v < table.len() {
@@ -60,12 +65,25 @@ pub fn names(table: &[u8]) -> Named
         if a != 0 {
             n += 1;
             if a <= WORD_BITS {
-                marks |= 1u64 << (a - 1);
+                word |= 1u64 << (a - 1);
             }
         }
     }
-    if marks == lowest(n) {
-        Named::Cells(n)
+    Marked {
+        word: word,
+        count: n,
+    }
+}
+
+// How many variables a table names, if its nonzero entries are 1 to that number, once each: if so many of the lowest
+// bits of its marks are set, and no other.
+pub fn names(table: &[u8]) -> Named
+    requires { ⌜ length (now table) ≡ 64 ⌝ }
+    ensures { λ r. ⌜ r ≡ tested (now (table .entry)) ⌝ }
+{
+    let marked = mark_all(table);
+    if marked.word == lowest(marked.count) {
+        Named::Cells(marked.count)
     } else {
         Named::NoTable
     }

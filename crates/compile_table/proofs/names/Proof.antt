@@ -1,68 +1,48 @@
--- `names` is the table's test: one pass gathers the marks and counts the names, and the word is looked at once.
-use Prim.Native.Nat.{_-_}
+-- `names` is the table's test: the word of its marks is looked at as a whole (Marks: WordTest).
+use mathlib.Core.Path.{_≡_, refl, sym, ap, _∙_}
+use mathlib.Core.Bool.{Bool, true, false}
+use mathlib.Core.List.{List}
+use Prim.Native.Nat.{ℕ}
 use native.Mathlib.Omega.{arith}
 use lib.ListN.{length}
 use borrow.Author.Needs.{needs}
-use Rattle.compile_table.proofs.Marking.{Marked, marked-start, marked-zero, marked-address, marked-above}
-use Rattle.compile_table.proofs.Marking.{marked-passes, marked-fails}
+use Rattle.compile.specs.Table.{named-in, is-table}
+use Rattle.compile_table.specs.Marks.{marks, lowest}
+use Rattle.compile_table.specs.Tested.{tested}
+use Rattle.compile_table.specs.declared.Named.the-variants.{Cells, NoTable}
+use Rattle.compile_table.proofs.Counting.{found-table, found-none}
+use Rattle.compile_table.proofs.Marks.{word-test}
 use Rattle.compile_table.proofs.names.Statement.{statement}
 use Rattle.compile_table.proofs.names.Tie as tie
 
-abbrev Inv-loop : tie.InvT-loop
-Inv-loop table marks₀ n₀ v₀ word n v = Marked table word n v
+module _ (t : List ℕ) {word n : ℕ} (size : length t ≡ 64) (whole : word ≡ marks t) (count : n ≡ named-in t) where
+  passes : word ≡ lowest n → Cells n ≡ tested t
+  passes e = found-table t count (word-test t size .as-a-whole .1 (sym whole ∙ e ∙ ap lowest count))
 
-abbrev μ-loop : tie.MeasureT-loop
-μ-loop table marks₀ n₀ v₀ word n v = length table - v
+  fails : (word ≡ lowest n → ⊥) → NoTable ≡ tested t
+  fails e =
+      found-none t
+      (by (is-table t) (λ p. e (whole ∙ word-test t size .as-a-whole .0 p ∙ sym (ap lowest count))))
+    where
+      by : (b : Bool) → (b ≡ true → ⊥) → b ≡ false
+      by true e = absurd (e refl)
+      by false e = refl
 
 pub names-spec : {M : Type 1} → statement M
 names-spec =
     tie.close
     (tie.spec
-    Inv-loop
-    μ-loop
-    (λ c. let s : tie.Start Inv-loop μ-loop = search in marked-start (s .args .table .now))
-    (λ c. search needs)
+    (λ c κs. search needs)
+    (λ c κs. search needs)
     (λ c.
-    let turn : tie.At-loop Inv-loop μ-loop = search in
-    omega (arith, c .shared-slice-known2 .given (turn .loop .v)))
-    (λ c. search needs)
+    let l : tie.After-lowest = search in
+    let m : tie.After-mark-all = search in
+    let s : tie.Start = search in
+    passes _ (s .pre) (m .mark-all .ensures .0) (m .mark-all .ensures .1)
+    (omega (arith, c .if1 .taken, l .lowest .ensures)))
     (λ c.
-    let turn : tie.At-loop Inv-loop μ-loop = search in
-    omega (arith, turn .loop .inv .few))
-    (λ c. search needs)
-    (λ c. search needs)
-    (λ c. search needs)
-    (λ c.
-    let other : tie.Then1 Inv-loop μ-loop = search in
-    let going : tie.In-loop Inv-loop μ-loop = search in
-    let turn : tie.At-loop Inv-loop μ-loop = search in
-    marked-address (turn .loop .inv) (going .loop-test .taken) (other .if1 .taken)
-    (omega (arith, c .if2 .taken)))
-    (λ c. search needs)
-    (λ c.
-    let other : tie.Then1 Inv-loop μ-loop = search in
-    let going : tie.In-loop Inv-loop μ-loop = search in
-    let turn : tie.At-loop Inv-loop μ-loop = search in
-    marked-above (turn .loop .inv) (going .loop-test .taken) (other .if1 .taken) (c .if2 .left))
-    (λ c. search needs)
-    (λ c.
-    let going : tie.In-loop Inv-loop μ-loop = search in
-    let turn : tie.At-loop Inv-loop μ-loop = search in
-    marked-zero (turn .loop .inv) (going .loop-test .taken) (c .if1 .left))
-    (λ c κs.
-    let turn : tie.At-loop Inv-loop μ-loop = search in
-    let s : tie.Start Inv-loop μ-loop = search in
-    omega (arith, turn .loop .inv .few, turn .loop .inv .most, s .pre))
-    (λ c.
-    let l : tie.After-lowest Inv-loop μ-loop = search in
-    let end : tie.After-loop Inv-loop μ-loop = search in
-    let turn : tie.At-loop Inv-loop μ-loop = search in
-    let s : tie.Start Inv-loop μ-loop = search in
-    marked-passes (turn .loop .inv) (end .loop-test .left) (s .pre) (omega (arith, c .if3 .taken, l .lowest .ensures)))
-    (λ c.
-    let l : tie.After-lowest Inv-loop μ-loop = search in
-    let end : tie.After-loop Inv-loop μ-loop = search in
-    let turn : tie.At-loop Inv-loop μ-loop = search in
-    let s : tie.Start Inv-loop μ-loop = search in
-    marked-fails (turn .loop .inv) (end .loop-test .left) (s .pre)
-    (λ e. omega (arith, e, c .if3 .left, l .lowest .ensures))))
+    let l : tie.After-lowest = search in
+    let m : tie.After-mark-all = search in
+    let s : tie.Start = search in
+    fails _ (s .pre) (m .mark-all .ensures .0) (m .mark-all .ensures .1)
+    (λ e. omega (arith, e, c .if1 .left, l .lowest .ensures))))
