@@ -1,5 +1,6 @@
 pub mod Cases
 pub mod Sizes
+pub mod Segment
 pub mod Entries
 pub mod Naming
 pub mod Counting

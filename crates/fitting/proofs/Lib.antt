@@ -1,5 +1,4 @@
 pub mod Cases
-pub mod Segment
 pub mod Simulation
 pub mod Loading
 pub mod Memories

@@ -27,7 +27,7 @@ use Rattle.machine.specs.Machine.{Memory, Machine, at, taken, pop, push, held}
 use Rattle.machine.specs.Machine.{keep, in-range, next, act, after, run-at, run}
 use Rattle.machine.proofs.Effects.{push-next, jump-on, jump-back, compare-on}
 use Rattle.compile.specs.Compilation.{acomp, bcomp, test, ccomp}
-use Rattle.fitting.proofs.Segment.{Seg, seg-split, seg-length, seg-whole}
+use Rattle.compile.proofs.Segment.{Seg, seg-split, seg-length, seg-whole}
 use Rattle.fitting.specs.Simulation.{seen, Laws, Names, Simulated}
 
 -- a rest of the source run

@@ -41,11 +41,11 @@ unfolding within
 within-on q last b = if-yes (leb q last) (To q) Astray (le→leb q last b)
 
 -- where a jump on by i from the record before q leads, and a jump back over c records to p
-target-on : (i p q last : ℕ) → suc p ≡ q → q + i ≤ last → target p (pos i) last ≡ To (q + i)
+pub target-on : (i p q last : ℕ) → suc p ≡ q → q + i ≤ last → target p (pos i) last ≡ To (q + i)
 unfolding target
 target-on i p q last e b = ap (λ r. within last (pos (r + i))) e ∙ within-on (q + i) last b
 
-target-back : (c p j last : ℕ) → j ≡ p + c → p ≤ last → target j (negsuc c) last ≡ To p
+pub target-back : (c p j last : ℕ) → j ≡ p + c → p ≤ last → target j (negsuc c) last ≡ To p
 unfolding target
 target-back c p j last e b = ap (within last) (sub-back c p j e) ∙ within-on p last b
 

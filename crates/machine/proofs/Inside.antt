@@ -46,7 +46,7 @@ goes-either : {M A : Type 0} (b : Bool) (x y : Act (Machine M) Fault A) (s : Mac
 goes-either true x y s Q h k = h
 goes-either false x y s Q h k = k
 
-some-below : {A : Type 0} (l : List A) (p : ℕ) (x : A) → getElem? l p ≡ some x → p < length l
+pub some-below : {A : Type 0} (l : List A) (p : ℕ) (x : A) → getElem? l p ≡ some x → p < length l
 some-below [] p x e = absurd (let z : _≡_ {A = ℕ} 0 1 = cc in omega arith)
 some-below (y ∷ l) zero x e = omega arith
 some-below (y ∷ l) (suc p) x e = omega (arith, some-below l p x e)
@@ -61,7 +61,7 @@ within-last last (pos p) q e = within-test (leb p last) p q last (leb→le p las
 within-last last (negsuc p) q e = absurd (let z : _≡_ {A = ℕ} 0 1 = cc in omega arith)
 
 -- a target is at most the end position
-target-within : (p : ℕ) (i : ℤ) (last q : ℕ) → target p i last ≡ To q → q ≤ last
+pub target-within : (p : ℕ) (i : ℤ) (last q : ℕ) → target p i last ≡ To q → q ≤ last
 unfolding target
 target-within p i last q = within-last last (pos (suc p) +ℤ i) q
 

@@ -1,6 +1,6 @@
 -- The test of code from what it finds at each index: records at all of them are given, and the first index without one
 -- is where 10 is due. The test by a kind's numbers serves every kind that they tell.
-use mathlib.Core.Path.{_≡_, refl, sym, ap, ap₂, _∙_}
+use mathlib.Core.Path.{_≡_, refl, sym, ap, ap₂, subst, _∙_}
 use mathlib.Core.Bool.{Bool, true, false, _&&_}
 use mathlib.Core.List.{List, [], _∷_, map}
 use mathlib.Core.Option.{Option, none, some}
@@ -15,7 +15,7 @@ use Rattle.base.specs.Answers.{Answer, gives, refused, and-then}
 use Rattle.word.specs.Numbers.{number-at}
 use Rattle.record.specs.Records.{Record, LOAD, ADD, STORE, rename}
 use Rattle.record.specs.Bytes as Bytes
-use Rattle.record.specs.Bytes.{assembly-kind, machine-kind, name-of, option-map, is-zero}
+use Rattle.record.specs.Bytes.{assembly-kind, machine-kind, name-of, option-map, is-zero, record-count}
 use Rattle.record.specs.Bytes.{Operation, loadi, load, add, store, jmp, jmpless, jmpge, unknown, operation}
 use Rattle.record.specs.Bytes.{record-of, record-at, in-front, records-from}
 use Rattle.record_test.specs.Code.{kind-of, assembly-numbers, machine-numbers, Told, is-some, Tested}
@@ -178,6 +178,13 @@ module _ {Name : Type 0} (numbers : Kind) (k : Bytes.Kind Name) (t : Told number
             λ e. let p = x .passes e in
             (map (rename (k .name)) (p .0), records-told code 0 count ∙ ap all-renamed (p .1));
       }
+
+  -- The same of all records of code, where a kind of the code's is known to have these numbers
+  pub tested-as : (code : List ℕ) {kind : Kind} {index : ℕ} → kind ≡ numbers
+      → Tested (kind-of kind) code (record-count code) index → Tested k code (record-count code) index
+  tested-as code {index = i} e t =
+      tested-told code (record-count code) i
+      (subst (λ (kind : Kind). Tested (kind-of kind) code (record-count code) i) e t)
 
 -- Both kinds are told by their numbers.
 pub assembly-told : Told assembly-numbers assembly-kind

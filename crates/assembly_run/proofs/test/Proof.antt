@@ -1,28 +1,17 @@
 -- The tests of a call on assembly: each that fails is its refusal, in the order of the definition's tests; where all
 -- pass, the records given are as many as the code has.
-use mathlib.Core.Path.{_≡_, refl, sym, ap, subst, _∙_}
-use mathlib.Core.List.{List}
-use Prim.Native.Nat.{ℕ}
+use mathlib.Core.Path.{refl, sym, ap, _∙_}
 use native.Mathlib.Omega.{arith}
 use borrow.Author.Needs.{needs}
 use borrow.Author.Tests.{not-true, not-false, eq-eqb, ne-eqb, le-leb, lt-leb}
 use Rattle.base.specs.Answers.{gives, and-then}
 use Rattle.record.specs.Bytes.{assembly-kind, record-count}
-use Rattle.record_test.specs.Code.{kind-of, assembly-numbers, Tested}
-use Rattle.record_test.specs.declared.Kind.{Kind}
-use Rattle.record_test.proofs.Testing.{tested-told, assembly-told}
+use Rattle.record_test.proofs.Testing.{tested-as, assembly-told}
 use Rattle.record.proofs.Tested.{records-length}
 use Rattle.machine.proofs.Calls.{assembly-tested}
 use Rattle.machine_step.specs.Steps.{assembly-of}
 use Rattle.assembly_run.proofs.test.Statement.{statement}
 use Rattle.assembly_run.proofs.test.Tie as tie
-
--- what the code's kind says of the records
-tested : (code : List ℕ) {k : Kind} {index : ℕ} → k ≡ assembly-numbers
-    → Tested (kind-of k) code (record-count code) index → Tested assembly-kind code (record-count code) index
-tested code {index = i} e t =
-    tested-told assembly-numbers assembly-kind assembly-told code (record-count code) i
-    (subst (λ (k : Kind). Tested (kind-of k) code (record-count code) i) e t)
 
 refused-9 : tie.Need-returns
 unfolding and-then
@@ -64,7 +53,8 @@ refused-10 c =
     ∙ sym
     (assembly-tested (s .code .now) (assembly-of (s .store .now) (s .stack .now))
     (sym (w .is-whole .ensures) ∙ not-false _ (whole .if1 .left)) (eq-eqb _ _ (sized .if2 .left))
-    (tested (s .code .now) (k .assembly .ensures) (f .fault .ensures) .fails (no .if3 .taken)) refl)
+    (tested-as _ _ assembly-told (s .code .now) (k .assembly .ensures) (f .fault .ensures) .fails
+    (no .if3 .taken)) refl)
 
 refused-11 : tie.Need-returns-4
 unfolding and-then
@@ -78,7 +68,7 @@ refused-11 c =
     let w : tie.After-is-whole = search in
     let a : tie.Start = search in
     let s = a .args in
-    let t = tested (s .code .now) (k .assembly .ensures) (f .fault .ensures) in
+    let t = tested-as _ _ assembly-told (s .code .now) (k .assembly .ensures) (f .fault .ensures) in
     c .decline4 .ensures
     ∙ sym
     (assembly-tested (s .code .now) (assembly-of (s .store .now) (s .stack .now))
@@ -96,7 +86,7 @@ passed c =
     let w : tie.After-is-whole = search in
     let a : tie.Start = search in
     let s = a .args in
-    let t = tested (s .code .now) (k .assembly .ensures) (f .fault .ensures) in
+    let t = tested-as _ _ assembly-told (s .code .now) (k .assembly .ensures) (f .fault .ensures) in
     let P = t .passes (omega (arith, t .at-most, all .if3 .left)) in
     ap gives (sym (records-length assembly-kind (s .code .now) 0 (record-count (s .code .now)) (P .1)))
     ∙ sym

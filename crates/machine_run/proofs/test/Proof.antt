@@ -1,27 +1,16 @@
 -- The tests of a call on machine code: each that fails is its refusal, in the order of the definition's tests; where
 -- all pass, the records given are as many as the code has.
-use mathlib.Core.Path.{_≡_, refl, sym, ap, subst, _∙_}
-use mathlib.Core.List.{List}
-use Prim.Native.Nat.{ℕ}
+use mathlib.Core.Path.{refl, sym, ap, _∙_}
 use native.Mathlib.Omega.{arith}
 use borrow.Author.Needs.{needs}
 use borrow.Author.Tests.{not-true, not-false}
 use Rattle.base.specs.Answers.{gives, and-then}
 use Rattle.record.specs.Bytes.{machine-kind, record-count}
-use Rattle.record_test.specs.Code.{kind-of, machine-numbers, Tested}
-use Rattle.record_test.specs.declared.Kind.{Kind}
-use Rattle.record_test.proofs.Testing.{tested-told, machine-told}
+use Rattle.record_test.proofs.Testing.{tested-as, machine-told}
 use Rattle.record.proofs.Tested.{records-length}
 use Rattle.machine.proofs.Calls.{machine-tested}
 use Rattle.machine_run.proofs.test.Statement.{statement}
 use Rattle.machine_run.proofs.test.Tie as tie
-
--- what the code's kind says of the records
-tested : (code : List ℕ) (n : ℕ) {k : Kind} {index : ℕ} → k ≡ machine-numbers n
-    → Tested (kind-of k) code (record-count code) index → Tested (machine-kind n) code (record-count code) index
-tested code n {index = i} e t =
-    tested-told (machine-numbers n) (machine-kind n) (machine-told n) code (record-count code) i
-    (subst (λ (k : Kind). Tested (kind-of k) code (record-count code) i) e t)
 
 refused-9 : tie.Need-returns
 unfolding and-then
@@ -49,7 +38,8 @@ refused-10 c =
     ∙ sym
     (machine-tested (s .code .now) (s .memory .now) (s .depth) (s .cells)
     (sym (w .is-whole .ensures) ∙ not-false _ (whole .if1 .left))
-    (tested (s .code .now) (s .cells) (k .machine .ensures) (f .fault .ensures) .fails (no .if2 .taken)) refl)
+    (tested-as _ _ (machine-told (s .cells)) (s .code .now) (k .machine .ensures) (f .fault .ensures) .fails
+    (no .if2 .taken)) refl)
 
 refused-11 : tie.Need-returns-3
 unfolding and-then
@@ -63,7 +53,7 @@ refused-11 c =
     let w : tie.After-is-whole = search in
     let a : tie.Start = search in
     let s = a .args in
-    let t = tested (s .code .now) (s .cells) (k .machine .ensures) (f .fault .ensures) in
+    let t = tested-as _ _ (machine-told (s .cells)) (s .code .now) (k .machine .ensures) (f .fault .ensures) in
     c .decline3 .ensures
     ∙ sym
     (machine-tested (s .code .now) (s .memory .now) (s .depth) (s .cells)
@@ -82,7 +72,7 @@ passed c =
     let w : tie.After-is-whole = search in
     let a : tie.Start = search in
     let s = a .args in
-    let t = tested (s .code .now) (s .cells) (k .machine .ensures) (f .fault .ensures) in
+    let t = tested-as _ _ (machine-told (s .cells)) (s .code .now) (k .machine .ensures) (f .fault .ensures) in
     let P = t .passes (omega (arith, t .at-most, all .if2 .left)) in
     ap gives (sym (records-length (machine-kind (s .cells)) (s .code .now) 0 (record-count (s .code .now)) (P .1)))
     ∙ sym
