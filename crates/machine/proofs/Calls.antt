@@ -34,7 +34,7 @@ abbrev pub number-given : {A : Type 0} → Answer (List A) → Answer ℕ
 number-given tests = and-then tests (λ P. gives (length P))
 
 -- Where the code's count of them is `last`, they gave as many records;
-counted : {A : Type 0} {r : Count} {last : ℕ} (tests : Answer (List A)) → r ≡ Gives last
+pub counted : {A : Type 0} {r : Count} {last : ℕ} (tests : Answer (List A)) → r ≡ Gives last
     → count-answer r ≡ number-given tests → (P : List A) × (tests ≡ gives P) × (length P ≡ last)
 counted tests is e =
     let n = needed tests (λ P. gives (length P)) (sym e ∙ ap count-answer is) in
@@ -51,7 +51,7 @@ pub record CodeFound {Name : Type 0} (k : Kind Name) (code : List ℕ) (P : _) (
   pub whole : 5 * last ≤ length code
   pub given : records-from k code 0 last ≡ gives P
 
-code-found : {Name : Type 0} (k : Kind Name) (code : List ℕ) {P : _} {last : ℕ} → whole-records code ≡ true
+pub code-found : {Name : Type 0} (k : Kind Name) (code : List ℕ) {P : _} {last : ℕ} → whole-records code ≡ true
     → records-of k code ≡ gives P → length P ≡ last → CodeFound k code P last
 code-found k code {P} {last} is-whole e all =
     let same : record-count code ≡ last = sym (records-length k code 0 (record-count code) e) ∙ all in
@@ -116,16 +116,6 @@ module _ (code : List ℕ) (m : Assembly) where
 -- ---- Machine code
 
 module _ (code : List ℕ) (m : List ℤ) (D n : ℕ) where
-  pub machine-tested : {w : Bool} {x : Answer MachineCode} {f : Bool} → whole-records code ≡ w
-      → records-of (machine-kind n) code ≡ x → memory-fits D n m ≡ f
-      → number-given (machine-tests code m D n)
-      ≡ number-given (unless w refuse 9 at 0 else
-      and-then x (λ P. unless f refuse 11 at 0 else gives P))
-  unfolding machine-tests
-  machine-tested is-whole records fits =
-      λ i. number-given (unless is-whole i refuse 9 at 0 else
-      and-then (records i) (λ P. unless fits i refuse 11 at 0 else gives P))
-
   pub record MachineFound (last : ℕ) : Type 0 where
     pub records : MachineCode
     pub answer : machine-tests code m D n ≡ gives records

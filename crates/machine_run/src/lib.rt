@@ -6,7 +6,6 @@ use base::Run;
 use machine_step::Halted;
 use machine_step::Machine;
 use machine_step::Step;
-use record_test::Kind;
 ghost use mathlib.Core.Path.{_≡_};
 ghost use mathlib.Core.Bool.{_&&_};
 ghost use Prim.Native.Nat.{ℕ, _+_, _≤_};
@@ -37,18 +36,7 @@ pub fn test(code: &[u8], memory: &[i32], depth: u64, cells: u64) -> Count
     ensures { λ r. ⌜ count-answer r
         ≡ and-then (machine-tests (now (code .entry)) (now (memory .entry)) depth cells) (λ P. gives (length P)) ⌝ }
 {
-    if !record_test::is_whole(code) {
-        return Count::decline(9, 0);
-    }
-    let last = code.len() / record::RECORD_BYTES;
-    let fault = Kind::machine(cells).fault(code, last);
-    if fault < last {
-        return Count::decline(10, fault);
-    }
-    if !memory_fits(memory.len(), depth, cells) {
-        return Count::decline(11, 0);
-    }
-    Count::Gives(last)
+    record_test::test_machine(code, cells, memory_fits(memory.len(), depth, cells))
 }
 
 // Steps until the run ends, from a machine in code that ends at position `last`, over memory whose first `depth` cells

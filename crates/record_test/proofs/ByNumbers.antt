@@ -32,7 +32,7 @@ unfolding operation numbered
 from-first first b h = by-number first b (b - first) (omega arith)
 
 -- Past JMPGE's number nothing is known.
-past-last : (j : ℕ) → 6 < j → numbered j ≡ unknown
+pub past-last : (j : ℕ) → 6 < j → numbered j ≡ unknown
 unfolding operation numbered
 past-last j h =
     by-none 0 j (λ e. omega arith) (λ e. omega arith) (λ e. omega arith) (λ e. omega arith) (λ e. omega arith)

@@ -1,4 +1,5 @@
 // The test of code: whole records (9), each of its kind (10).
+use base::Count;
 use record::LOADI;
 use record::MLOADI;
 use record::MOST_RECORDS;
@@ -10,8 +11,11 @@ ghost use mathlib.Core.Bool.{_&&_};
 ghost use Prim.Native.Nat.{_*_, _≤_};
 ghost use lib.Dec.{ltb, leb};
 ghost use lib.ListN.{length};
+ghost use Rattle.base.specs.Answers.{gives, and-then};
+ghost use Rattle.base.specs.Code.{count-answer};
 ghost use Rattle.record.specs.Bytes.{record-of, operation, whole-records};
 ghost use Rattle.record_test.specs.Code.{kind-of, assembly-numbers, machine-numbers, is-some, numbered, Tested};
+ghost use Rattle.record_test.specs.Tests.{code-tests};
 
 // A kind of record: the byte of its LOADI, and the least and the greatest number that is a name.
 pub struct Kind {
@@ -107,4 +111,24 @@ impl Kind {
         }
         i
     }
+}
+
+// The tests of a call on machine code, in the document's order: refusals 9, 10, and 11, of which the call tells whether
+// it `fits`. Gives the number of records.
+pub fn test_machine(code: &[u8], cells: u64, fits: bool) -> Count
+    ensures { λ r. ⌜ count-answer r
+        ≡ and-then (code-tests (now (code .entry)) cells fits) (λ P. gives (length P)) ⌝ }
+{
+    if !is_whole(code) {
+        return Count::decline(9, 0);
+    }
+    let last = code.len() / RECORD_BYTES;
+    let fault = Kind::machine(cells).fault(code, last);
+    if fault < last {
+        return Count::decline(10, fault);
+    }
+    if !fits {
+        return Count::decline(11, 0);
+    }
+    Count::Gives(last)
 }
