@@ -1,10 +1,10 @@
-/* The native stack that each exported call uses. The call runs on a stack of its own, painted before; the lowest byte
+/* The native stack that each exported call uses, and the inspection, through its probe. The call runs on a stack of its own, painted before; the lowest byte
  * that lost its paint tells how far it went. What an empty call uses is taken off.
  *
  *     stack TEXT_FILE...
  *
- * Prints the greatest use of each call over these texts and over texts at nesting 64 in each construct; fails where it
- * is above LIMIT, the bound that the README states.
+ * Prints the greatest use of each call over these texts, over texts at nesting 64 in each construct, and over code as long
+ * as it may be; fails where it is above LIMIT, the bound that the README states.
  */
 #include <stdio.h>
 #include <stdlib.h>
@@ -12,6 +12,8 @@
 #include <ucontext.h>
 
 #include "profile.h"
+
+uint64_t probe_inspect(const uint8_t *code, size_t code_length, uint64_t depth, uint64_t cells);
 
 enum { LONGEST = 4096, RECORD = 5, SPACE = 1 << 20, PAINT = 0xa5, LIMIT = 32 * 1024 };
 
@@ -31,13 +33,19 @@ static void going_back(void)
 {
     profile_go_back(code, RECORD * (size_t)records, table, sizeof table, assembly, sizeof assembly);
 }
+static void inspecting(void) { probe_inspect(code, RECORD * (size_t)records, 64, 64); }
 
 static struct {
     const char *name;
     void (*call)(void);
     size_t most;
-} calls[] = {{"profile_read", reading, 0}, {"profile_compile", compiling, 0}, {"profile_go_back", going_back, 0}};
-enum { CALLS = sizeof calls / sizeof calls[0] };
+} calls[] = {
+    {"profile_read", reading, 0},
+    {"profile_compile", compiling, 0},
+    {"profile_go_back", going_back, 0},
+    {"probe_inspect", inspecting, 0},
+};
+enum { INSPECT = 3, CALLS = sizeof calls / sizeof calls[0] };
 
 /* How many bytes of a fresh stack a call changes. */
 static size_t stack_used(void (*call)(void))
@@ -58,14 +66,17 @@ static size_t stack_used(void (*call)(void))
     return SPACE - kept;
 }
 
+static void measure_call(int i)
+{
+    size_t used = stack_used(calls[i].call) - stack_used(nothing);
+    if (used > calls[i].most)
+        calls[i].most = used;
+}
+
 static void measure(void)
 {
-    size_t empty = stack_used(nothing);
-    for (int i = 0; i < CALLS; i++) {
-        size_t used = stack_used(calls[i].call) - empty;
-        if (used > calls[i].most)
-            calls[i].most = used;
-    }
+    for (int i = 0; i < CALLS; i++)
+        measure_call(i);
 }
 
 /* A text of so many copies of a prefix, a middle and as many copies of a suffix, after a start. */
@@ -139,6 +150,14 @@ static void measure_file(const char *path)
     measure();
 }
 
+/* As many jumps as code may have records, each to the next. */
+static void measure_longest_code(void)
+{
+    for (records = 0; records < LONGEST; records++)
+        memcpy(code + RECORD * records, (uint8_t[RECORD]){0x54}, RECORD);
+    measure_call(INSPECT);
+}
+
 int main(int count, char **words)
 {
     int failed = 0;
@@ -146,6 +165,7 @@ int main(int count, char **words)
     measure_nests();
     for (int i = 1; i < count; i++)
         measure_file(words[i]);
+    measure_longest_code();
     for (int i = 0; i < CALLS; i++) {
         printf("%s: %zu bytes of stack\n", calls[i].name, calls[i].most);
         failed |= calls[i].most == 0 || calls[i].most > LIMIT;

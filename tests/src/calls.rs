@@ -64,6 +64,7 @@ mod exported {
             store: *mut i32,
             store_len: usize,
         ) -> u64;
+        pub fn probe_inspect(code: *const u8, code_len: usize, depth: u64, cells: u64) -> u64;
         pub fn probe_preview_source(
             text: *const u8,
             text_len: usize,
@@ -211,6 +212,10 @@ pub fn read_back(table: &[u8], memory: &[i32], depth: u64, store: &mut [i32]) ->
         exported::probe_read_back(table_at, table.len(), memory_at, memory.len(), depth, store_at, store.len())
     };
     answer(packed, count)
+}
+
+pub fn inspect(code: &[u8], depth: u64, cells: u64) -> Answer<usize> {
+    answer(unsafe { exported::probe_inspect(code.as_ptr(), code.len(), depth, cells) }, count)
 }
 
 pub fn preview_source(text: &[u8], store: &[i32], budget: u32, out: &mut [i32]) -> Answer<Ran> {

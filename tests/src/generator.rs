@@ -268,3 +268,81 @@ pub fn code(random: &mut Random, first: u8) -> Vec<u8> {
     }
     code
 }
+
+/// Machine code with its D and n, as another tool than our compiler may write it.
+pub struct Foreign {
+    pub code: Vec<u8>,
+    pub depth: usize,
+    pub cells: usize,
+}
+
+/// Code to which heights can be given. The heights come first, each from the one before it by a push, a store, a sum, a
+/// comparing jump or, after a jump, freely; then the records, a jump going to any position of the height that it leaves.
+pub fn foreign(random: &mut Random, most: usize) -> Foreign {
+    let (depth, cells) = (random.below(7), 1 + random.below(3));
+    let mut heights = vec![0usize];
+    let mut jumps = Vec::new();
+    while heights.len() <= most || *heights.last().unwrap() != 0 {
+        let height = *heights.last().unwrap();
+        let jump = random.one_in(8) || depth == 0;
+        jumps.push(jump);
+        heights.push(match random.below(3) {
+            _ if jump => random.below(depth + 1),
+            0 if height >= 2 => height - 2,
+            1 if height >= 1 => height - 1,
+            _ if height < depth => height + 1,
+            _ => height - 1,
+        });
+    }
+    let mut code = Vec::new();
+    for (p, &jump) in jumps.iter().enumerate() {
+        let (height, next) = (heights[p], heights[p + 1]);
+        let left = if jump { height } else { next };
+        let targets: Vec<usize> = (0..heights.len()).filter(|&q| heights[q] == left).collect();
+        let by = targets[random.below(targets.len())] as i32 - (p as i32 + 1);
+        let name = 1 + random.below(cells) as i32;
+        let (number, operand) = match height.cmp(&next) {
+            _ if jump => (4, by),
+            std::cmp::Ordering::Less if random.one_in(2) => (0, random.cell()),
+            std::cmp::Ordering::Less => (1, name),
+            _ if next + 2 == height => (5 + random.below(2) as u8, by),
+            _ if height >= 2 && random.one_in(2) => (2, 0),
+            _ => (3, name),
+        };
+        code.push(0x50 + number);
+        code.extend(operand.to_le_bytes());
+    }
+    Foreign { code, depth, cells }
+}
+
+impl Foreign {
+    /// One record exchanged, dropped or doubled, one operand changed, or one stack cell less.
+    pub fn damage(&mut self, random: &mut Random) {
+        if self.code.is_empty() {
+            return;
+        }
+        let at = 5 * random.below(self.code.len() / 5);
+        let number = random.below(7) as u8;
+        match random.below(6) {
+            0 => self.depth = self.depth.saturating_sub(1),
+            1 => drop(self.code.drain(at..at + 5)),
+            2 => {
+                let record: Vec<u8> = self.code[at..at + 5].to_vec();
+                self.code.splice(at..at, record);
+            }
+            3 | 4 if self.code[at] >= 0x54 => {
+                let by = random.below(7) as i32 - 3;
+                self.code[at + 1..at + 5].copy_from_slice(&by.to_le_bytes());
+            }
+            _ => {
+                let operand = match number {
+                    1 | 3 => 1 + random.below(self.cells) as i32,
+                    2 => 0,
+                    _ => random.below(9) as i32 - 4,
+                };
+                self.code[at] = 0x50 + number;
+                self.code[at + 1..at + 5].copy_from_slice(&operand.to_le_bytes());
+            }
+        }
+    }
+}

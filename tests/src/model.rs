@@ -674,6 +674,70 @@ pub fn preview_machine(
     Ok((ran, copy))
 }
 
+// ---- Inspection (W5)
+
+/// What a record takes off the stack and what it then pushes.
+fn effect(record: Record) -> (usize, usize) {
+    match record {
+        Loadi(_) | Load(_) => (0, 1),
+        Add => (2, 1),
+        Store(_) => (1, 0),
+        Jmp(_) => (0, 0),
+        Jmpless(_) | Jmpge(_) => (2, 0),
+    }
+}
+
+/// The positions, in the code or not, to which a record leads.
+fn successors(record: Record, position: usize) -> Vec<i64> {
+    let next = position as i64 + 1;
+    match record {
+        Jmp(i) => vec![next + i64::from(i)],
+        Jmpless(i) | Jmpge(i) => vec![next + i64::from(i), next],
+        _ => vec![next],
+    }
+}
+
+/// The heights of the positions that can be reached, where heights can be given: from each height its successors' ones,
+/// over and over until nothing is new.
+fn heights(code: &[Record], depth: usize) -> Option<Vec<Option<usize>>> {
+    let mut heights: Vec<Option<usize>> = vec![None; code.len() + 1];
+    heights[0] = Some(0);
+    loop {
+        let before = heights.clone();
+        for (position, &record) in code.iter().enumerate() {
+            let Some(height) = heights[position] else { continue };
+            let (takes, puts) = effect(record);
+            let left = height.checked_sub(takes)? + puts;
+            if left > depth {
+                return None;
+            }
+            for to in successors(record, position) {
+                let to = usize::try_from(to).ok().filter(|&to| to <= code.len())?;
+                if *heights[to].get_or_insert(left) != left {
+                    return None;
+                }
+            }
+        }
+        if heights == before {
+            return (heights[code.len()].unwrap_or(0) == 0).then_some(heights);
+        }
+    }
+}
+
+/// The heights of machine code, or 9, 10, 11 (D or n above 64), 13.
+pub fn inspected(code: &[u8], depth: u64, n: u64) -> Result<Vec<Option<usize>>, Refusal> {
+    whole(code)?;
+    let records = records(code, 0x50, 1..=n)?;
+    if depth > 64 || n > 64 {
+        return Err(Refusal(11, 0));
+    }
+    heights(&records, depth as usize).ok_or(Refusal(13, 0))
+}
+
+pub fn inspect(code: &[u8], depth: u64, n: u64) -> Result<usize, Refusal> {
+    inspected(code, depth, n).map(|heights| heights.len() - 1)
+}
+
 // ---- The printing program
 
 fn spelled(record: Record, prefix: &str) -> String {

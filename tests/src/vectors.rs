@@ -96,7 +96,7 @@ impl Call {
         })
     }
 
-    /// The number that loading, reading back (`n`) or going back (`records`) gives.
+    /// The number that loading, reading back (`n`), going back or inspecting (`records`) gives.
     pub fn count(&self, name: &str) -> Answer<usize> {
         self.answer(|call| call.output(name) as usize)
     }

@@ -108,7 +108,7 @@ fn reading_order() {
             read.push(quote.to_string());
         }
     }
-    for layer in ["base", "word", "text", "source", "record", "machine", "compile", "fitting", "print"] {
+    for layer in ["base", "word", "text", "source", "record", "machine", "compile", "inspection", "fitting", "print"] {
         for entry in std::fs::read_dir(root().join("crates").join(layer).join("specs")).unwrap() {
             let name = entry.unwrap().path().file_stem().unwrap().to_str().unwrap().to_string();
             let beside_code = ["Lib", "Code", "Buffer"].contains(&name.as_str());

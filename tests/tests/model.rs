@@ -87,3 +87,11 @@ fn previews() {
         assert_eq!(matching::preview(got, &call.cells("out")), want, "line {}", call.line);
     }
 }
+
+#[test]
+fn inspections() {
+    for call in vectors::calls("inspect") {
+        let got = model::inspect(&call.bytes("code"), call.number("D"), call.number("n"));
+        assert_eq!(matching::count(got), call.count("records"), "line {}", call.line);
+    }
+}

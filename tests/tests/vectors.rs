@@ -116,3 +116,11 @@ fn preview_machine() {
         preview(&call, got, out, &[("memory", memory), ("store", store)]);
     }
 }
+
+#[test]
+fn inspect() {
+    for call in vectors::calls("inspect") {
+        let got = calls::inspect(&call.bytes("code"), call.number("D"), call.number("n"));
+        assert_eq!(got, call.count("records"), "line {}", call.line);
+    }
+}

@@ -58,6 +58,12 @@ pub extern "C" fn probe_read_back(
     pod_packing::pack_count(count)
 }
 
+#[no_mangle]
+pub extern "C" fn probe_inspect(code: &[u8], depth: u64, cells: u64) -> u64 {
+    let count: Count = inspection_search::inspect(code, depth, cells);
+    pod_packing::pack_count(count)
+}
+
 // Cells written over as many lent ones.
 fn put_cells(cells: &[i32], out: &mut [i32]) {
     if cells.len() == out.len() {

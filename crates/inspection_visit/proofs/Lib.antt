@@ -1,0 +1,4 @@
+pub mod Labelling
+pub mod Telling
+pub mod Following
+pub mod Visiting
