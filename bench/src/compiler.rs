@@ -180,15 +180,18 @@ fn variables(table: &[u8]) -> Result<([u8; 65], usize), Refusal> {
     Ok((variables, n))
 }
 
-/// The assembly of machine code and its table; the record count.
-pub fn go_back(code: &[u8], table: &[u8], out: &mut [u8]) -> Result<usize, Refusal> {
+/// Refuses code that is not whole records, or too many.
+#[inline(always)]
+pub fn whole(code: &[u8]) -> Result<(), Refusal> {
     if code.len() % 5 != 0 || code.len() / 5 > 4096 {
         return Err(Refusal(9, 0));
     }
-    if table.len() != 64 {
-        return Err(Refusal(8, 0));
-    }
-    let (variables, n) = variables(table)?;
+    Ok(())
+}
+
+/// Refuses the first that is no machine record with addresses from 1 to n.
+#[inline(always)]
+pub fn known(code: &[u8], n: usize) -> Result<(), Refusal> {
     for (index, record) in code.chunks_exact(5).enumerate() {
         let operand = i32::from_le_bytes(record[1..].try_into().unwrap());
         let known = match record[0].wrapping_sub(0x50) {
@@ -200,6 +203,17 @@ pub fn go_back(code: &[u8], table: &[u8], out: &mut [u8]) -> Result<usize, Refus
             return Err(Refusal(10, index));
         }
     }
+    Ok(())
+}
+
+/// The assembly of machine code and its table; the record count.
+pub fn go_back(code: &[u8], table: &[u8], out: &mut [u8]) -> Result<usize, Refusal> {
+    whole(code)?;
+    if table.len() != 64 {
+        return Err(Refusal(8, 0));
+    }
+    let (variables, n) = variables(table)?;
+    known(code, n)?;
     let out = out.get_mut(..code.len()).ok_or(Refusal(7, 0))?;
     for (record, to) in code.chunks_exact(5).zip(out.chunks_exact_mut(5)) {
         let kind = record[0] - 0x50;

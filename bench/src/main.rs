@@ -3,6 +3,7 @@
 mod compiler;
 mod cursor;
 mod executors;
+mod inspection;
 mod previews;
 mod reader;
 mod runs;
@@ -44,6 +45,7 @@ fn main() {
     previews::machine(&loops, 1_000_000);
     tables::loading();
     tables::reading_back();
+    inspection::codes(&[long.as_slice(), &profiles].concat());
     translations::texts(&long, &profiles);
     translations::shapes(&texts::shapes());
 }
