@@ -45,7 +45,7 @@ module _ {M Name : Type 0} (sum : ℤ → ℤ → Sum) (D : ℕ) (o : Memory M N
     -- neither
     pub goes : effect r .takes ≤ k → height-after r k ≤ D → Goes r p k (act sum D o last r (at p k m))
 
--- The machine agrees with `effect`, on any memory, under any rule for sums.
+-- The machine agrees with `effect`, with at most D values on its stack, on any memory, under any rule for sums.
 abbrev pub Effects : Type 1
 Effects = (M Name : Type 0) (sum : ℤ → ℤ → Sum) (D : ℕ) (o : Memory M Name) (last : ℕ) (r : Record Name) (p k : ℕ)
     (m : M) → k ≤ D → Agrees sum D o last r p k m
