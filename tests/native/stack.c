@@ -1,5 +1,5 @@
-/* The native stack that each exported call uses, and the inspection, through its probe. The call runs on a stack of its own, painted before; the lowest byte
- * that lost its paint tells how far it went. What an empty call uses is taken off.
+/* The native stack that each exported call uses, and the inspection, through its probe. The call runs on a stack of its
+ * own, painted before; the lowest byte that lost its paint tells how far it went. What an empty call uses is taken off.
  *
  *     stack TEXT_FILE...
  *
