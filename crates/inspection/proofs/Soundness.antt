@@ -138,15 +138,15 @@ one-height Name D P h h′ H H′ p w = (same D P h h′ H H′ p w, deep D P h 
 module _ {M Name : Type 0} (sum : SumRule) (D : ℕ) (o : Memory M Name) (P : List (Record Name)) (h : ℕ → ℕ)
     (H : Heights D P h) where
   -- the machine stands at a position that can be reached, at its height
-  record Stands (s : Machine M) : Type 0 where
+  record AtHeight (s : Machine M) : Type 0 where
     reached : Reached P (s .position)
     height : s .size ≡ h (s .position)
 
-  stands-first : (m : M) → Stands (fresh m)
-  stands-first m = record { reached = first; height = sym (H .start) }
+  first-at-height : (m : M) → AtHeight (fresh m)
+  first-at-height m = record { reached = first; height = sym (H .start) }
 
   -- what comes of the record due
-  due-goes : (n : ℕ) (s : Machine M) (r : Record Name) → Stands s → getElem? P (s .position) ≡ some r
+  due-goes : (n : ℕ) (s : Machine M) (r : Record Name) → AtHeight s → getElem? P (s .position) ≡ some r
       → Goes (sum n) D o (length P) r (s .position) (s .size) (act (sum n) D o (length P) r s)
   due-goes n s r x e =
       act-goes (sum n) D o (length P) r (s .position) (s .size) (s .memory)
@@ -154,21 +154,21 @@ module _ {M Name : Type 0} (sum : SumRule) (D : ℕ) (o : Memory M Name) (P : Li
       (omega (arith, x .height, H .enough _ r (x .reached) e))
       (subst (λ k. height-after r k ≤ D) (sym (x .height)) (H .room _ r (x .reached) e))
 
-  step-stands : (n : ℕ) (s s′ : Machine M) (r : Record Name) → Stands s → getElem? P (s .position) ≡ some r
-      → act (sum n) D o (length P) r s ≡ ok tt s′ → Stands s′
-  step-stands n s s′ r x e f =
+  step-at-height : (n : ℕ) (s s′ : Machine M) (r : Record Name) → AtHeight s → getElem? P (s .position) ≡ some r
+      → act (sum n) D o (length P) r s ≡ ok tt s′ → AtHeight s′
+  step-at-height n s s′ r x e f =
       let g = subst (Goes (sum n) D o (length P) r (s .position) (s .size)) f (due-goes n s r x e) in
       record {
         reached = Rules.step (g .0) (x .reached) e (g .1);
         height = g .2 ∙ ap (height-after r) (x .height) ∙ sym (H .follows _ r (x .reached) e (g .0) _ (g .1));
       }
 
-  walk-stands : (n n′ : ℕ) (s s′ : Machine M) → Walk sum D o P n n′ s s′ → Stands s → Stands s′
-  walk-stands n n′ s s′ (stay) x = x
-  walk-stands n n′ s s′ (step {n = k} {s′ = t} r e f w) x = walk-stands k n′ t s′ w (step-stands k s t r x e f)
+  walk-at-height : (n n′ : ℕ) (s s′ : Machine M) → Walk sum D o P n n′ s s′ → AtHeight s → AtHeight s′
+  walk-at-height n n′ s s′ (stay) x = x
+  walk-at-height n n′ s s′ (step {n = k} {s′ = t} r e f w) x = walk-at-height k n′ t s′ w (step-at-height k s t r x e f)
 
   -- the record due brings no fault but a sum out of range
-  fault-safe : (n : ℕ) (s : Machine M) (r : Record Name) (e : Fault) → Stands s → getElem? P (s .position) ≡ some r
+  fault-safe : (n : ℕ) (s : Machine M) (r : Record Name) (e : Fault) → AtHeight s → getElem? P (s .position) ≡ some r
       → act (sum n) D o (length P) r s ≡ ended e → Safe (fault e)
   fault-safe n s r e x d f =
       pick e (subst (Goes (sum n) D o (length P) r (s .position) (s .size)) f (due-goes n s r x d))
@@ -179,24 +179,24 @@ module _ {M Name : Type 0} (sum : SumRule) (D : ℕ) (o : Memory M Name) (P : Li
       pick out-of-range g = tt
       pick astray g = H .lands _ r (x .reached) d (g .0) (g .1)
 
-  made-safe : (n n′ : ℕ) (s s′ : Machine M) (e : End) → Stands s → Made sum D o P n s e n′ s′ → Safe e
+  made-safe : (n n′ : ℕ) (s s′ : Machine M) (e : End) → AtHeight s → Made sum D o P n s e n′ s′ → Safe e
   made-safe n n′ s s′ done x made = tt
   made-safe n n′ s s′ spent x made = tt
-  made-safe n n′ s s′ (fault e) x (w, r, d, f) = fault-safe n′ s′ r e (walk-stands n (suc n′) s s′ w x) d f
+  made-safe n n′ s s′ (fault e) x (w, r, d, f) = fault-safe n′ s′ r e (walk-at-height n (suc n′) s s′ w x) d f
 
   mark-low : (n mark : ℕ) (m : M)
       → (mark ≡ 0) ⊎ ((n′ : ℕ) × (s′ : Machine M) × Walk sum D o P n n′ (fresh m) s′ × (s′ .size ≡ mark))
       → (p : ℕ) × Reached P p × (mark ≡ h p)
   mark-low n mark m (inl e) = (0, first, e ∙ sym (H .start))
   mark-low n mark m (inr (n′, s′, w, e)) =
-      let x = walk-stands n n′ (fresh m) s′ w (stands-first m) in
+      let x = walk-at-height n n′ (fresh m) s′ w (first-at-height m) in
       (s′ .position, x .reached, sym e ∙ x .height)
 
 pub sound : (sum : SumRule) → Sound sum
 sound sum M Name D o P h H n m =
     let r = run sum D o P n 0 (fresh m) in
     record {
-      safe = made-safe sum D o P h H n (r .left) (fresh m) (r .leaves) (r .end) (stands-first sum D o P h H m)
+      safe = made-safe sum D o P h H n (r .left) (fresh m) (r .leaves) (r .end) (first-at-height sum D o P h H m)
           (counted sum D o P n 0 (fresh m));
       low = mark-low sum D o P h H n (r .mark) m (highest sum D o P n 0 (fresh m) (omega arith) .reached);
     }

@@ -46,13 +46,14 @@ module _ {Name : Type 0} (k : Kind Name) where
       unknown-record i r (past-last (suc (suc (suc (suc (suc (suc (suc j))))))) (omega arith)) e
 
   -- A byte that begins a record is one of the seven.
-  pub record Told (first b : ℕ) (i : ℤ) (r : Record Name) : Type 0 where
+  pub record ByteTells (first b : ℕ) (i : ℤ) (r : Record Name) : Type 0 where
     pub from : first ≤ b
     pub up-to : b ≤ first + 6
     pub effect-is : numbered-effect (b - first) i ≡ effect r
 
-  pub told : (first b : ℕ) (i : ℤ) (r : Record Name) → record-of k (operation first b) i ≡ some r → Told first b i r
-  told first b i r e = elim (decLt b first) [
+  pub byte-tells : (first b : ℕ) (i : ℤ) (r : Record Name) → record-of k (operation first b) i ≡ some r
+      → ByteTells first b i r
+  byte-tells first b i r e = elim (decLt b first) [
     | yes l ↦ unknown-record i r (below-first first b l) e
     | no l ↦
         let from : first ≤ b = omega arith in
@@ -96,32 +97,32 @@ module _ (last p l after : ℕ) where
 
 module _ {Name : Type 0} (D last p k : ℕ) (r : Record Name) where
   -- the tests of a record that does not break its height
-  record Kept (result : Checked) : Type 0 where
+  record LimitsHold (result : Checked) : Type 0 where
     enough : effect r .takes ≤ k
     room : height-after r k ≤ D
     goes-on : result ≡ goes last p (height-after r k) (effect r .way)
 
-  kept : (result : Checked) → (result ≡ Breaks → ⊥) → result ≡ checked D last p k (effect r) → Kept result
+  limits-hold : (result : Checked) → (result ≡ Breaks → ⊥) → result ≡ checked D last p k (effect r) → LimitsHold result
   unfolding checked
-  kept result n said =
+  limits-hold result n said =
       pick (leb (effect r .takes) k) (leb (height-after r k) D) (leb-true (effect r .takes) k)
       (leb-true (height-after r k) D) said
     where
       pick : (s v : Bool) → (s ≡ true → effect r .takes ≤ k) → (v ≡ true → height-after r k ≤ D)
-          → result ≡ (if s && v then goes last p (height-after r k) (effect r .way) else Breaks) → Kept result
+          → result ≡ (if s && v then goes last p (height-after r k) (effect r .way) else Breaks) → LimitsHold result
       pick true true f g e = record { enough = f refl; room = g refl; goes-on = e }
       pick true false f g e = absurd (n e)
       pick false v f g e = absurd (n e)
 
   pub keeps-one : (l : ℕ) (to : Target) → Leads l to ≡ checked D last p k (effect r) → Keeping D last p k r l to to
   keeps-one l to e =
-      let x = kept (Leads l to) (λ z. let no : _≡_ {A = ℕ} 0 1 = cc in omega arith) e in
+      let x = limits-hold (Leads l to) (λ z. let no : _≡_ {A = ℕ} 0 1 = cc in omega arith) e in
       let y = goes-one last p l (height-after r k) to (effect r .way) (x .goes-on) in
       record { enough = x .enough; room = x .room; after-is = y .0; jumped-is = y .1 true; passed-is = y .1 false }
 
   pub keeps-two : (l : ℕ) (j q : Target) → Forks l j q ≡ checked D last p k (effect r) → Keeping D last p k r l j q
   keeps-two l j q e =
-      let x = kept (Forks l j q) (λ z. let no : _≡_ {A = ℕ} 0 1 = cc in omega arith) e in
+      let x = limits-hold (Forks l j q) (λ z. let no : _≡_ {A = ℕ} 0 1 = cc in omega arith) e in
       let y = goes-two last p l (height-after r k) j q (effect r .way) (x .goes-on) in
       record { enough = x .enough; room = x .room; after-is = y .0; jumped-is = y .1; passed-is = y .2 }
 

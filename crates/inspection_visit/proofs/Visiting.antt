@@ -1,5 +1,5 @@
--- A position looked at (Positions: Visited): the end, a record that breaks its height, and a record whose ways are followed,
--- one or two.
+-- A position looked at (Positions: Visited): the end, a record that breaks its height, and a record whose ways are
+-- followed, one or two.
 use mathlib.Core.Path.{_≡_, refl, sym, _∙_, ap, subst}
 use Prim.Native.Nat.{ℕ, suc, _+_, _-_, _*_, _≤_, _<_}
 use native.Mathlib.Numerals.{add-one}
@@ -26,7 +26,7 @@ use Rattle.inspection_visit.specs.declared.Checked.the-variants.{Leads, 
 use Rattle.inspection_visit.specs.declared.Finds.{Finds}
 use Rattle.inspection_visit.specs.declared.Finds.the-variants.{Found, Clash}
 use Rattle.inspection_visit.proofs.Labelling.{followed-at}
-use Rattle.inspection_visit.proofs.Telling.{Told, told, Keeping, keeps-one, keeps-two, broken-height}
+use Rattle.inspection_visit.proofs.Telling.{ByteTells, byte-tells, Keeping, keeps-one, keeps-two, broken-height}
 use Rattle.inspection_visit.proofs.Following.{grew-not, grew-twice, Successor, HasLabel, followed, Only}
 use Rattle.inspection_visit.proofs.Following.{held-on, clashed, end-looked, end-clash, reach, only, lost, broken}
 
@@ -78,7 +78,7 @@ pub known-there : {code : List ℕ} {last D p : ℕ} {ls o : List ℕ} {f : ℕ}
 known-there {code} {last} {p = p} s inside k low =
     let x = s .passes in
     let d = record-due (machine-kind (x .n)) code (x .records) last p (x .given) inside in
-    let t = told (machine-kind (x .n)) 0x50 _ _ (d .due) (d .there) in
+    let t = byte-tells (machine-kind (x .n)) 0x50 _ _ (d .due) (d .there) in
     record {
       inside = inside;
       few = s .few;
@@ -101,8 +101,8 @@ module _ {code : List ℕ} {last D p : ℕ} {ls o : List ℕ} {f : ℕ} {result 
   due-there = record-due (machine-kind (x .n)) code (x .records) last p (x .given) (s .inside)
 
   -- its bytes tell what it takes, puts and leads to
-  told-there : Told (machine-kind (x .n)) 0x50 (getD code (5 * p) 0) (number-at code (5 * p + 1)) (due-there .due)
-  told-there = told (machine-kind (x .n)) 0x50 _ _ (due-there .due) (due-there .there)
+  told-there : ByteTells (machine-kind (x .n)) 0x50 (getD code (5 * p) 0) (number-at code (5 * p + 1)) (due-there .due)
+  told-there = byte-tells (machine-kind (x .n)) 0x50 _ _ (due-there .due) (due-there .there)
 
   result-is : result ≡ checked D (length (x .records)) p (getD ls p 0 - 1) (effect (due-there .due))
   result-is =

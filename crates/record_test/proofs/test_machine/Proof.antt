@@ -35,7 +35,9 @@ refused-9 c =
     let a : tie.Start = search in
     let s = a .args in
     c .decline .ensures
-    ∙ sym (number (s .code .now) (s .cells) (s .fits) (sym (w .is-whole .ensures) ∙ not-true _ (no .if1 .taken)) refl refl)
+    ∙ sym
+    (number (s .code .now) (s .cells) (s .fits) (sym (w .is-whole .ensures) ∙ not-true _ (no .if1 .taken)) refl
+    refl)
 
 refused-10 : tie.Need-returns-2
 unfolding and-then
