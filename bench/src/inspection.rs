@@ -90,7 +90,8 @@ fn foreign(records: usize) -> [(&'static str, Vec<u8>); 3] {
 
 /// Code with records, heights and jumps at random, of about so many records, with a stack of some depth.
 fn random(records: usize) -> Foreign {
-    (0..).map(|seed| generator::foreign(&mut Random::new(seed), records - records / 16)).find(|foreign| foreign.depth > 3).unwrap()
+    let least = records - records / 16;
+    (0..).map(|seed| generator::foreign(&mut Random::new(seed), least)).find(|foreign| foreign.depth > 3).unwrap()
 }
 
 /// Foreign code, long and short, and what our compiler writes.

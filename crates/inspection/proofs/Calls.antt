@@ -1,16 +1,16 @@
--- The call: its tests from what each of them finds; it has one answer (Claims: OneAnswer); what `compile` writes passes
+-- The call: what its tests found; it has one answer (Claims: OneAnswer); what `compile` writes passes
 -- (TextsPass); code that passes is run without ending short, full or astray (Inspects).
 use mathlib.Core.Path.{_≡_, refl, sym, _∙_, ap, subst}
 use Prim.Native.Nat.{ℕ, _+_, _*_, _≤_}
 use native.Mathlib.Decide.{ℕ-discrete}
 use native.Mathlib.Omega.{arith}
-use mathlib.Core.Bool.{Bool, true, _&&_}
+use mathlib.Core.Bool.{true, _&&_}
 use mathlib.Core.List.{List}
 use borrow.Author.Tests.{le-leb, leb-true, eq-eqb}
 use lib.Dec.{leb}
 use lib.IntN.{ℤ}
 use lib.ListN.{length, take}
-use Rattle.base.specs.Answers.{Answer, gives, refused, unless_refuse_at_else_, and-then}
+use Rattle.base.specs.Answers.{Answer, gives, refused, and-then}
 use Rattle.base.specs.Code.{count-answer}
 use Rattle.base.specs.Ends.{report}
 use Rattle.base.specs.declared.Refusal.{Refusal}
@@ -46,17 +46,6 @@ use Rattle.inspection.proofs.Soundness.{sound}
 -- ---- The tests
 
 module _ (code : List ℕ) (D n : ℕ) where
-  -- The answer of the tests, from what each of them finds
-  inspect-tested : {w : Bool} {x : Answer MachineCode} {f : Bool} → whole-records code ≡ w
-      → records-of (machine-kind n) code ≡ x → (leb D 64 && leb n 64) ≡ f
-      → inspect-tests code D n
-      ≡ (unless w refuse 9 at 0 else
-      and-then x (λ P. unless f refuse 11 at 0 else gives P))
-  unfolding inspect-tests
-  inspect-tested is-whole records fits =
-      λ i. unless is-whole i refuse 9 at 0 else
-      and-then (records i) (λ P. unless fits i refuse 11 at 0 else gives P)
-
   -- A refusal of the code's is theirs.
   pub refused-tests : {r : Count} {why : Refusal} → r ≡ Refused why
       → count-answer r ≡ number-given (inspect-tests code D n)
@@ -117,15 +106,21 @@ module _ (code : List ℕ) (D n : ℕ) where
     pub inspected-fails : (Passing D (f .records) → ⊥) → Inspected code D n (refused 13 0)
     inspected-fails none = subst (λ t. After D t (refused 13 0)) (sym (f .answer)) (judged-fails D (f .records) none)
 
--- An answer that is not the number of records is 13.
+-- An answer that is not the number of records is 13,
 else-13 : (D : ℕ) (P : MachineCode) (a : Answer ℕ) → Judged D P a → (a ≡ gives (length P) → ⊥) → a ≡ refused 13 0
 else-13 D P a j no-count = j .refuses .1 (λ x. no-count (j .passes .1 x))
 
-one-judgement : (D : ℕ) (P : MachineCode) (a b : Answer ℕ) → Judged D P a → Judged D P b → a ≡ b
-one-judgement D P (gives k) b j j′ = elim (ℕ-discrete k (length P)) [
-  | yes e ↦ ap gives e ∙ sym (j′ .passes .1 (j .passes .0 (ap gives e)))
+-- and one that gives a number gives theirs.
+theirs : (D : ℕ) (P : MachineCode) (k : ℕ) → Judged D P (gives k) → gives k ≡ gives (length P)
+theirs D P k j = elim (ℕ-discrete k (length P)) [
+  | yes e ↦ ap gives e
   | no e ↦ not-both (sym (else-13 D P (gives k) j (λ f. e (gives-one _ _ f))))
 ]
+
+one-judgement : (D : ℕ) (P : MachineCode) (a b : Answer ℕ) → Judged D P a → Judged D P b → a ≡ b
+one-judgement D P (gives k) b j j′ =
+    let is = theirs D P k j in
+    is ∙ sym (j′ .passes .1 (j .passes .0 is))
 one-judgement D P (refused number place) b j j′ =
     let is = else-13 D P (refused number place) j (λ e. not-both e) in
     is ∙ sym (j′ .refuses .1 (j .refuses .0 is))
@@ -142,17 +137,18 @@ one-answer code D n a b = one-after D (inspect-tests code D n) a b
 -- the machine code of a command within the limits of texts
 command-passes : (c : Command) → Within c
     → Inspected (machine-bytes c) (depth c) (cells c) (gives (records c))
-unfolding and-then
+unfolding inspect-tests and-then
 command-passes c within =
     let P : MachineCode = to-m-prog (ccomp c) in
     let count : length P ≡ records c = machine-count c in
     let room : records c ≤ 4096 = omega (arith, short c, within .short) in
-    let deep = le-leb (depth c) 64 (omega (arith, shallow c (within .nested))) in
-    let small = le-leb (cells c) 64 (few c) in
     let test : inspect-tests (machine-bytes c) (depth c) (cells c) ≡ gives P =
-    inspect-tested (machine-bytes c) (depth c) (cells c)
-    (whole-written (machine-kind (cells c)) P (omega arith))
-    (written .in-machine (cells c) P (codes c (within .valid) room .in-machine)) (λ i. deep i && small i) in
+    simp (
+      whole-written (machine-kind (cells c)) P (omega arith),
+      written .in-machine (cells c) P (codes c (within .valid) room .in-machine),
+      le-leb (depth c) 64 (omega (arith, shallow c (within .nested))),
+      le-leb (cells c) 64 (few c),
+    ) in
     subst (λ x. After (depth c) x (gives (records c))) (sym test)
     (subst (λ k. Judged (depth c) P (gives k)) count (judged-passes (depth c) P (commands-pass c .1)))
 
@@ -176,14 +172,7 @@ texts-pass text bytes lent left z e =
 module _ (code : List ℕ) (D n k : ℕ) (memory : List ℤ) (long : length memory ≡ D + 1 + n) (budget : ℕ) where
   -- the records given, and the code found to be theirs
   given : (x : Answer MachineCode) → After D x (gives k) → (P : MachineCode) × (x ≡ gives P) × Passing D P
-  given (gives P) j = (
-    P,
-    refl,
-    elim (ℕ-discrete k (length P)) [
-      | yes e ↦ j .passes .0 (ap gives e)
-      | no e ↦ not-both (sym (else-13 D P (gives k) j (λ f. e (gives-one _ _ f))))
-    ],
-  )
+  given (gives P) j = (P, refl, j .passes .0 (theirs D P k j))
   given (refused number place) e = not-both (sym e)
 
   -- the tests of `run_machine` are passed too

@@ -78,7 +78,7 @@ abbrev pub OneHeight : Type 1
 OneHeight = (Name : Type 0) (D : ℕ) (P : List (Record Name)) (h h′ : ℕ → ℕ) → Heights D P h → Heights D P h′
     → (p : ℕ) → Reached P p → (h p ≡ h′ p) × (h p ≤ D)
 
--- The same of the calls: code that `inspect` passes is run by `run_machine` on any memory of D + 1 + n cells.
+-- `Sound`, of the calls: code that `inspect` passes, run by `run_machine` on any memory of D + 1 + n cells.
 pub record RunsSafely (code : List ℕ) (memory : List ℤ) (D n budget : ℕ) : Type 0 where
   pub records : MachineCode
   pub tested : inspect-tests code D n ≡ gives records

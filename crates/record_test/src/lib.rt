@@ -1,4 +1,4 @@
-// The test of code: whole records (9), each of its kind (10).
+// The test of code: whole records (9), each of its kind (10); and the tests of a call on machine code (9, 10, 11).
 use base::Count;
 use record::LOADI;
 use record::MLOADI;
