@@ -14,7 +14,7 @@ use Rattle.record.specs.Records.{rename}
 use Rattle.record.specs.Bytes.{first-byte, operand as record-operand, code-bytes, operation, name-of, option-map}
 use Rattle.record.specs.Bytes.{is-zero, record-of, in-front, records-from}
 use Rattle.compile.specs.Compilation.{acomp, bcomp, ccomp}
-use Rattle.compile.specs.Table.{member, once, vars, addr-of, entries, times, once-each, variable-at}
+use Rattle.compile.specs.Table.{member, once, mentions, addr-of, entries, times, once-each, variable-at}
 use Rattle.compile.specs.Calls.{assemble-tests, assemble, compile-tests, compile, go-back-tests, go-back}
 use Rattle.compile.specs.Cases.{Listing, ShortListing, Addresses, BytesOfB, AssembleDeclines}
 use Rattle.compile.specs.Cases.{CompileDeclines, GoBackDeclines}
@@ -37,7 +37,7 @@ pub addresses : Addresses
 unfolding I·text then′ give and-then number-of number-at
     expression-byte condition-byte command-byte decline there due pass operand number-due number
     expression-of expression condition-of condition command-of command all-read read-text
-    ccomp acomp bcomp rename vars member once addr-of entries
+    ccomp acomp bcomp rename mentions member once addr-of entries
 addresses = (refl, refl)
 
 pub bytes-of-B : BytesOfB
@@ -47,7 +47,7 @@ unfolding B·text then′ give and-then settle number-of number-at bits-of bytes
     expression-records condition-records records expression-depth condition-depth depth
     expression-names condition-names names how-many
     rename first-byte record-operand code-bytes operation name-of option-map is-zero record-of in-front records-from
-    ccomp acomp bcomp vars member once addr-of entries times once-each variable-at
+    ccomp acomp bcomp mentions member once addr-of entries times once-each variable-at
     assemble-tests assemble compile-tests compile go-back-tests go-back
 bytes-of-B = record {
   assembled = refl;

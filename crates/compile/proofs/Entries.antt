@@ -14,7 +14,7 @@ use borrow.Author.Tests.{eqb-true, eqb-false, eq-eqb}
 use Rattle.base.specs.Acts.{if_then_else_}
 use Rattle.record.specs.Records.{Record, AssemblyCode, named}
 use Rattle.record.specs.declared.Variable.{Variable}
-use Rattle.compile.specs.Table.{member, once, vars, addr-of, entries, table}
+use Rattle.compile.specs.Table.{member, once, mentions, vars, addr-of, entries, table}
 
 -- ---- A variable's address
 
@@ -98,48 +98,64 @@ table-distinct P v w l e =
     inside : (u : ℕ) → 0 < getD (table P) u 0 → u < 64
     inside u h = elim (decLt u 64) [ yes l ↦ l | no l ↦ absurd (omega (arith, table-past P u (omega arith))) ]
 
--- ---- The variables that records name
-
--- Is w what a record names?
-abbrev pub is-named : ℕ → Option Variable → Bool
-is-named w none = false
-is-named w (some v) = eqb (v .0) w
-
--- Among the variables of records are those that the first names and those of the others.
-pub member-once : (w : ℕ) (o : Option Variable) (xs : List ℕ) → member w (once o xs) ≡ (is-named w o || member w xs)
-unfolding member once
-member-once w none xs = refl
-member-once w (some v) xs = by (member (v .0) xs) refl
-  where
-    first : (b : Bool) → (if b then true else member w xs) ≡ (b || member w xs)
-    first true = refl
-    first false = refl
-
-    among : (b : Bool) → eqb (v .0) w ≡ b → member (v .0) xs ≡ true → member w xs ≡ (b || member w xs)
-    among true e m = ap (λ u. member u xs) (sym (eqb-true (v .0) w e)) ∙ m
-    among false e m = refl
-
-    by : (b : Bool) → member (v .0) xs ≡ b → member w (if b then xs else v .0 ∷ xs) ≡ (eqb (v .0) w || member w xs)
-    by true m = among (eqb (v .0) w) refl m
-    by false m = first (eqb (v .0) w)
+-- ---- What records name
 
 -- What is none is not some.
 pub none-some : {A B : Type 0} (a : A) → none ≡ some a → B
 none-some a e = let z : _≡_ {A = ℕ} 0 1 = cc in absurd (omega arith)
 
--- What a record names is among the variables,
-named-member : (P : AssemblyCode) (p : ℕ) (v : Variable) (r : Record Variable) → getElem? P p ≡ some r
-    → named r ≡ some v → member (v .0) (vars P) ≡ true
-unfolding vars
-named-member [] p v r e f = none-some r e
-named-member (q ∷ P) zero v r e f =
-    let same : named q ≡ some v = ap {B = Option Variable} named (Option·some-injective q r e) ∙ f in
-    simp (member-once, same, eq-eqb (v .0) (v .0) refl)
-named-member (q ∷ P) (suc p) v r e f = simp (member-once, named-member P p v r e f, or-true)
+module _ {Name : Type 0} (number : Name → ℕ) where
+  -- Is w what a record names?
+  abbrev pub is-named : ℕ → Option Name → Bool
+  is-named w none = false
+  is-named w (some x) = eqb (number x) w
 
--- and so has an address.
+  -- Among what records name are what the first names and what the others name.
+  pub member-once : (w : ℕ) (o : Option Name) (xs : List ℕ)
+      → member w (once number o xs) ≡ (is-named w o || member w xs)
+  unfolding member once
+  member-once w none xs = refl
+  member-once w (some x) xs = by (member (number x) xs) refl
+    where
+      first : (b : Bool) → (if b then true else member w xs) ≡ (b || member w xs)
+      first true = refl
+      first false = refl
+
+      among : (b : Bool) → eqb (number x) w ≡ b → member (number x) xs ≡ true → member w xs ≡ (b || member w xs)
+      among true e m = ap (λ u. member u xs) (sym (eqb-true (number x) w e)) ∙ m
+      among false e m = refl
+
+      by : (b : Bool) → member (number x) xs ≡ b
+          → member w (if b then xs else number x ∷ xs) ≡ (eqb (number x) w || member w xs)
+      by true m = among (eqb (number x) w) refl m
+      by false m = first (eqb (number x) w)
+
+  -- One record more in front of Q: it names x, which comes in front unless it is among what Q names;
+  pub mentions-one : (r : Record Name) (Q : List (Record Name)) {x : Name} → named r ≡ some x
+      → mentions number (r ∷ Q)
+      ≡ (if member (number x) (mentions number Q) then mentions number Q else number x ∷ mentions number Q)
+  unfolding mentions once
+  mentions-one r Q e = ap (λ (o : Option Name). once number o (mentions number Q)) e
+
+  -- or it names nothing.
+  pub mentions-none : (r : Record Name) (Q : List (Record Name)) → named r ≡ none
+      → mentions number (r ∷ Q) ≡ mentions number Q
+  unfolding mentions once
+  mentions-none r Q e = ap (λ (o : Option Name). once number o (mentions number Q)) e
+
+  -- What a record names is among them.
+  pub named-member : (P : List (Record Name)) (p : ℕ) (x : Name) (r : Record Name) → getElem? P p ≡ some r
+      → named r ≡ some x → member (number x) (mentions number P) ≡ true
+  unfolding mentions
+  named-member [] p x r e f = none-some r e
+  named-member (q ∷ P) zero x r e f =
+      let same : named q ≡ some x = ap {B = Option Name} named (Option·some-injective q r e) ∙ f in
+      simp (member-once, same, eq-eqb (number x) (number x) refl)
+  named-member (q ∷ P) (suc p) x r e f = simp (member-once, named-member P p x r e f, or-true)
+
+-- A variable that a record names has an address.
 pub named-address : (P : AssemblyCode) (p : ℕ) (v : Variable) (r : Record Variable) → getElem? P p ≡ some r
     → named r ≡ some v → 0 < addr-of (vars P) (v .0)
 named-address P p v r e f =
     let a = addr-of (vars P) (v .0) in
-    omega (arith, eqb-false a 0 (address-none (vars P) (v .0) ∙ ap not (named-member P p v r e f)))
+    omega (arith, eqb-false a 0 (address-none (vars P) (v .0) ∙ ap not (named-member (λ v. v .0) P p v r e f)))

@@ -12,32 +12,32 @@ use Rattle.text.specs.Syntax.{IF_THEN_ELSE_, WHILE_DO_}
 use Rattle.text.specs.Sizes.{expression-names, condition-names, names}
 use Rattle.record.specs.Records.{AssemblyCode, STORE, JMP, JMPLESS, JMPGE, variable}
 use Rattle.compile.specs.Compilation.{acomp, bcomp, ccomp}
-use Rattle.compile.specs.Table.{member, once, vars}
+use Rattle.compile.specs.Table.{member, once, mentions, vars}
 use Rattle.compile.proofs.Entries.{member-once}
 
 module _ (w : ℕ) where
   member-append : (P Q : AssemblyCode) → member w (vars (P ++ Q)) ≡ (member w (vars P) || member w (vars Q))
-  unfolding vars member
+  unfolding mentions member
   member-append [] Q = refl
   member-append (r ∷ P) Q = simp (member-once, member-append P Q, or-assoc)
 
-  names-one : (v : ℕ) → member w (once (some (variable v)) []) ≡ eqb v w
+  names-one : (v : ℕ) → member w (once (λ v. v .0) (some (variable v)) []) ≡ eqb v w
   unfolding member
-  names-one v = member-once w (some (variable v)) [] ∙ or-false (eqb v w)
+  names-one v = member-once (λ v. v .0) w (some (variable v)) [] ∙ or-false (eqb v w)
 
   names-expression : (a : Expression) → member w (vars (acomp a)) ≡ expression-names a w
-  unfolding acomp expression-names vars member once
+  unfolding acomp expression-names mentions member once
   names-expression (Constant w z) = refl
   names-expression (Expression.Variable v) = names-one v
   names-expression (Plus a b) = simp (member-append, names-expression a, names-expression b, or-false)
 
   names-truth : (t : Bool) (i : ℤ) → member w (vars (if t then JMP i ∷ [] else [])) ≡ false
-  unfolding vars member once
+  unfolding mentions member once
   names-truth true i = refl
   names-truth false i = refl
 
   names-compare : (flag : Bool) (i : ℤ) → member w (vars ((if flag then JMPLESS i else JMPGE i) ∷ [])) ≡ false
-  unfolding vars member once
+  unfolding mentions member once
   names-compare true i = refl
   names-compare false i = refl
 
@@ -50,7 +50,7 @@ module _ (w : ℕ) where
       simp (member-append, names-expression a, names-expression b, names-compare flag i, or-false)
 
   pub names-command : (c : Command) → member w (vars (ccomp c)) ≡ names c w
-  unfolding ccomp names vars member once
+  unfolding ccomp names mentions member once
   names-command SKIP = refl
   names-command (v := a) =
       member-append (acomp a) (STORE (variable v) ∷ [])

@@ -19,7 +19,7 @@ use Rattle.record.specs.Records.{AssemblyCode, named}
 use Rattle.record.specs.declared.Variable.{Variable}
 use Rattle.compile.specs.Claims.{Tables, NamedVariables}
 use Rattle.compile.specs.Compilation.{ccomp}
-use Rattle.compile.specs.Table.{member, once, vars, addr-of, entries, times, named-in, once-each, is-table}
+use Rattle.compile.specs.Table.{member, once, mentions, vars, addr-of, entries, times, named-in, once-each, is-table}
 use Rattle.compile.proofs.Entries.{address-most, address-none, length-entries}
 use Rattle.compile.proofs.Counting.{one-more, none-pass, pass-or-not}
 use Rattle.compile.proofs.Mentions.{names-command}
@@ -32,7 +32,7 @@ Sound [] = Unit {0}
 Sound (x ∷ xs) = (x < 64) × (member x xs ≡ false) × Sound xs
 
 sound-once : (o : Option Variable) (xs : List ℕ) → ((v : Variable) → o ≡ some v → v .0 < 64) → Sound xs
-    → Sound (once o xs)
+    → Sound (once (λ v. v .0) o xs)
 unfolding once
 sound-once none xs h s = s
 sound-once (some v) xs h s = by (member (v .0) xs) refl
@@ -43,7 +43,7 @@ sound-once (some v) xs h s = by (member (v .0) xs) refl
 
 -- The variables of plain records are such.
 sound : (most : ℕ) (P : AssemblyCode) → AllPlain most P → Sound (vars P)
-unfolding vars
+unfolding mentions
 sound most [] h = tt
 sound most (r ∷ P) h =
     sound-once (named r) (vars P) (λ v e. plain-named most r v (h .0) e) (sound most P (h .1))

@@ -6,7 +6,7 @@ use mathlib.Core.Option.{Option, none, some}
 use lib.Dec.{eqb}
 use lib.ListN.{length}
 use Rattle.base.specs.Acts.{if_then_else_}
-use Rattle.record.specs.Records.{AssemblyCode, MachineCode, variable, address, named, rename}
+use Rattle.record.specs.Records.{Record, AssemblyCode, MachineCode, variable, address, named, rename}
 use Rattle.record.specs.declared.Variable.{Variable}
 use Rattle.record.specs.declared.Address.{Address}
 
@@ -17,15 +17,21 @@ unfoldable pub member : ℕ → List ℕ → Bool
 member v [] = false
 member v (x ∷ xs) = if eqb x v then true else member v xs
 
--- a variable in front of others, unless it is among them
-unfoldable pub once : Option Variable → List ℕ → List ℕ
-once none xs = xs
-once (some v) xs = if member (v .0) xs then xs else v .0 ∷ xs
+-- The published vars, of either kind of records
+module _ {Name : Type 0} (number : Name → ℕ) where
+  -- a name's number in front of others, unless it is among them
+  unfoldable pub once : Option Name → List ℕ → List ℕ
+  once none xs = xs
+  once (some x) xs = if member (number x) xs then xs else number x ∷ xs
+
+  -- the numbers that records name, each at its last mention
+  unfoldable pub mentions : List (Record Name) → List ℕ
+  mentions [] = []
+  mentions (r ∷ P) = once (named r) (mentions P)
 
 -- The published vars: the variables that records name, each at its last mention
-unfoldable pub vars : AssemblyCode → List ℕ
-vars [] = []
-vars (r ∷ P) = once (named r) (vars P)
+abbrev pub vars : AssemblyCode → List ℕ
+vars = mentions (λ (v : Variable). v .0)
 
 -- The published addr-of: counted from the end, so that "the variable whose last mention comes last has address 1";
 -- 0 if unnamed

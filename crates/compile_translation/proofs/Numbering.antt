@@ -3,7 +3,7 @@
 use mathlib.Core.Path.{_≡_, refl, sym, ap, ap₂, _∙_}
 use mathlib.Core.Bool.{Bool, true, false, not}
 use mathlib.Core.List.{List, [], _∷_}
-use mathlib.Core.Option.{Option, none, some}
+use mathlib.Core.Option.{none, some}
 use Prim.Native.Nat.{ℕ, zero, suc, _+_, _-_, _≤_, _<_}
 use native.Mathlib.Numerals.{add-one}
 use native.Mathlib.Decide.{ℕ-discrete}
@@ -15,8 +15,8 @@ use borrow.Author.Tests.{eq-eqb, ne-eqb, eqb-true}
 use Rattle.base.specs.Acts.{if_then_else_}
 use Rattle.record.specs.Records.{Record, ADD, AssemblyCode, named}
 use Rattle.record.specs.declared.Variable.{Variable}
-use Rattle.compile.specs.Table.{member, once, vars, addr-of, entries, table, times}
-use Rattle.compile.proofs.Entries.{address-none, length-entries, table-at}
+use Rattle.compile.specs.Table.{member, mentions, vars, addr-of, entries, table, times}
+use Rattle.compile.proofs.Entries.{address-none, length-entries, table-at, mentions-one, mentions-none}
 use Rattle.compile_translation.specs.Steps.{addressed}
 use Rattle.compile_translation.specs.Translated.{Numbered}
 
@@ -54,14 +54,7 @@ module _ (r : Record Variable) (Q : AssemblyCode) where
           ∙ simp (ne-eqb x v (λ e. q (sym e)))
           (sym (getD-set-other (table Q) x v (length (vars Q) + 1) 0 q ∙ table-at Q v l))
 
-  -- A record that names v: the variables are those after it, with v in front unless it is among them,
-  vars-one : (v : Variable) → named r ≡ some v → (b : Bool) → member (v .0) (vars Q) ≡ b
-      → vars (r ∷ Q) ≡ (if b then vars Q else v .0 ∷ vars Q)
-  unfolding vars once
-  vars-one v e b m =
-      ap (λ (o : Option Variable). once o (vars Q)) e ∙ ap (λ (b : Bool). if b then vars Q else v .0 ∷ vars Q) m
-
-  -- and the table is what giving v an address makes of the table after it.
+  -- A record that names v: the table is what giving v an address makes of the table after it.
   pub names-one : (v : Variable) → named r ≡ some v → v .0 < 64
       → addressed (v .0) (length (vars Q)) (table Q) ≡ numbered (vars (r ∷ Q))
   unfolding addressed
@@ -73,20 +66,17 @@ module _ (r : Record Variable) (Q : AssemblyCode) where
       entry : (b : Bool) → member (v .0) (vars Q) ≡ b → eqb (getD (table Q) (v .0) 0) 0 ≡ not b
       entry b m = ap (λ (a : ℕ). eqb a 0) (table-at Q (v .0) h) ∙ address-none (vars Q) (v .0) ∙ ap not m
 
+      grown : (b : Bool) → member (v .0) (vars Q) ≡ b → vars (r ∷ Q) ≡ (if b then vars Q else v .0 ∷ vars Q)
+      grown b m = mentions-one (λ v. v .0) r Q e ∙ ap (λ (b : Bool). if b then vars Q else v .0 ∷ vars Q) m
+
       by : (b : Bool) → member (v .0) (vars Q) ≡ b
           → (if eqb (getD (table Q) (v .0) 0) 0 then (n + 1, set (table Q) (v .0) (n + 1)) else (n, table Q))
           ≡ numbered (vars (r ∷ Q))
       by true m =
-          simp (entry true m) (sym (ap numbered (vars-one v e true m)))
+          simp (entry true m) (sym (ap numbered (grown true m)))
       by false m =
-          let grown : vars (r ∷ Q) ≡ v .0 ∷ vars Q = vars-one v e false m in
           simp (entry false m)
-          (λ i. ((add-one n ∙ sym (ap length grown)) i, sym (table-more (v .0) h grown) i))
-
-  -- A record that names none
-  pub names-none : named r ≡ none → vars (r ∷ Q) ≡ vars Q
-  unfolding vars once
-  names-none e = ap (λ (o : Option Variable). once o (vars Q)) e
+          (λ i. ((add-one n ∙ sym (ap length (grown false m))) i, sym (table-more (v .0) h (grown false m)) i))
 
 -- ---- n is at most 64: each address takes an entry that was 0
 
@@ -126,7 +116,7 @@ module _ (P : AssemblyCode) where
   stage-long {t} {n} {i} s = ap length (s .table-is) ∙ length-entries (vars (drop i P)) 0 64
 
   pub stage-start : {t : List ℕ} {count : ℕ} → length P ≡ count → t ≡ replicate 64 0 → Stage t 0 count
-  unfolding vars entries addr-of times
+  unfolding mentions entries addr-of times
   stage-start {t} {count} e z =
       let none-left : drop count P ≡ [] = drop-of-length-le P {i = count} (omega arith) in
       record {
@@ -170,7 +160,7 @@ module _ (P : AssemblyCode) where
     pub stage-none : named (getD P (i - 1) ADD) ≡ none → Stage t n (i - 1)
     stage-none e =
         let same : vars (drop (i - 1) P) ≡ vars (drop i P) =
-        ap vars one-more ∙ names-none (getD P (i - 1) ADD) (drop i P) e in
+        ap vars one-more ∙ mentions-none (λ v. v .0) (getD P (i - 1) ADD) (drop i P) e in
         record {
           most = omega (arith, s .most);
           cells = s .cells ∙ ap length (sym same);

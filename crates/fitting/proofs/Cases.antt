@@ -24,7 +24,7 @@ use Rattle.record.specs.Bytes.{is-zero, record-of, in-front, records-from}
 use Rattle.machine.specs.Machine.{taken, pop, push, held, keep, in-range, next, land, jump, act, after, run-at, run}
 use Rattle.machine.specs.Calls.{machine-tests, run-machine}
 use Rattle.compile.specs.Compilation.{acomp, bcomp, ccomp}
-use Rattle.compile.specs.Table.{member, once, vars, addr-of, entries, times, once-each}
+use Rattle.compile.specs.Table.{member, once, mentions, addr-of, entries, times, once-each}
 use Rattle.compile.specs.Calls.{compile-tests, compile}
 use Rattle.fitting.specs.Loading.{put, fill, got, read-back}
 use Rattle.fitting.specs.Calls.{table-tests, pod-tests, load, read-back-call, preview-tests, preview-machine}
@@ -47,7 +47,7 @@ unfolding cases measured by-rules by-machine zeros
     charge tick raise lower cell assign total add value truth loop exec end-of result-of source-tests run-source
     rename first-byte record-operand code-bytes operation name-of option-map is-zero record-of in-front records-from
     taken pop push held keep in-range next land jump act after run-at run machine-tests run-machine
-    acomp bcomp ccomp member once vars addr-of entries times once-each compile-tests compile
+    acomp bcomp ccomp member once mentions addr-of entries times once-each compile-tests compile
     put fill got read-back table-tests pod-tests load read-back-call call answered fit four-calls
 profiles = (refl, refl)
 

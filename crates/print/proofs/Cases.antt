@@ -19,7 +19,7 @@ use Rattle.source.proofs.Cases.{forever}
 use Rattle.record.specs.Records.{rename}
 use Rattle.record.specs.Bytes.{operand as record-operand}
 use Rattle.compile.specs.Compilation.{acomp, bcomp, ccomp}
-use Rattle.compile.specs.Table.{member, once, vars, addr-of, entries}
+use Rattle.compile.specs.Table.{member, once, mentions, addr-of, entries}
 use Rattle.print.specs.Numbers.{decimal-by, signed}
 use Rattle.print.specs.Printing.{first-line, name-text, operand-text, record-lines, end-text, run-line}
 use Rattle.print.specs.Printing.{value-line, value-lines, run-lines, refusal-line, answer-lines}
@@ -32,7 +32,7 @@ unfolding B·text zeros then′ give and-then settle number-of number-at limited
     expression-records condition-records records expression-depth condition-depth depth
     expression-names condition-names names how-many
     charge tick raise lower cell assign total add value truth loop exec end-of result-of source-tests run-source
-    rename record-operand acomp bcomp ccomp member once vars addr-of entries
+    rename record-operand acomp bcomp ccomp member once mentions addr-of entries
     decimal-by signed first-line name-text operand-text record-lines end-text run-line
     value-line value-lines run-lines refusal-line answer-lines
 printed-B = refl
@@ -44,7 +44,7 @@ unfolding C·text zeros then′ give and-then settle number-of number-at limited
     expression-records condition-records records expression-depth condition-depth depth
     expression-names condition-names names how-many
     charge tick raise lower cell assign total add value truth loop exec end-of result-of source-tests run-source
-    rename record-operand acomp bcomp ccomp member once vars addr-of entries
+    rename record-operand acomp bcomp ccomp member once mentions addr-of entries
     decimal-by signed first-line name-text operand-text record-lines end-text run-line
     value-line value-lines run-lines answer-lines
 printed-C = refl
@@ -56,7 +56,7 @@ unfolding G·text zeros then′ give and-then settle number-of number-at limited
     expression-records condition-records records expression-depth condition-depth depth
     expression-names condition-names names how-many
     charge tick raise lower cell assign total add value truth loop exec end-of result-of source-tests run-source
-    rename record-operand acomp bcomp ccomp member once vars addr-of entries
+    rename record-operand acomp bcomp ccomp member once mentions addr-of entries
     decimal-by signed first-line name-text operand-text record-lines end-text run-line
     value-line value-lines run-lines answer-lines
 printed-G = refl
@@ -67,7 +67,7 @@ unfolding J·text zeros then′ give and-then
     expression-of expression condition-of condition command-of command all-read read-text
     expression-records condition-records records expression-depth condition-depth depth
     expression-names condition-names names how-many
-    rename record-operand acomp bcomp ccomp member once vars addr-of entries
+    rename record-operand acomp bcomp ccomp member once mentions addr-of entries
     decimal-by signed first-line name-text operand-text record-lines end-text run-line
     value-line value-lines run-lines answer-lines
 printed-J = rw (forever 1000000 zeros refl)
