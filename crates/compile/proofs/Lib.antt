@@ -6,6 +6,7 @@ pub mod Naming
 pub mod Counting
 pub mod Mentions
 pub mod Tables
+pub mod Pairs
 pub mod Codes
 pub mod Calls
 pub mod GoingBack

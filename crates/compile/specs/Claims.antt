@@ -15,7 +15,7 @@ use Rattle.text.specs.Respelling.{Respelled}
 use Rattle.record.specs.Bytes.{assembly-kind, machine-kind}
 use Rattle.record.specs.Claims.{CodeFits}
 use Rattle.compile.specs.Compilation.{ccomp}
-use Rattle.compile.specs.Table.{vars, to-m-prog, table, named-in, is-table, to-assembly}
+use Rattle.compile.specs.Table.{vars, to-m-prog, table, named-in, is-table, agrees, to-assembly}
 use Rattle.compile.specs.Calls.{Compiled, compile, assemble, go-back}
 
 -- ---- Sizes
@@ -50,6 +50,11 @@ pub record CodeHolds (c : Command) : Type 0 where
 
 abbrev pub Codes : Type 0
 Codes = (c : Command) → Valid c → records c ≤ 4096 → CodeHolds c
+
+-- "A pairing by our compiler always passes" (document 02, W6): seen from the last record backwards, the addresses in the
+-- machine code of a command are at their first sight 1, 2 and on to its n.
+abbrev pub Pairs : Type 0
+Pairs = (c : Command) → Valid c → agrees (to-m-prog (ccomp c)) (cells c) ≡ true
 
 -- ---- Going back
 

@@ -1,6 +1,6 @@
 -- Addresses, the table, machine code and the way back (document 01, "Records"; document 001, vars, addr-of, to-m-prog).
 use Prim.Native.Nat.{ℕ, zero, suc, _-_}
-use mathlib.Core.Bool.{Bool, true, false}
+use mathlib.Core.Bool.{Bool, true, false, _&&_}
 use mathlib.Core.List.{List, [], _∷_, map}
 use mathlib.Core.Option.{Option, none, some}
 use lib.Dec.{eqb}
@@ -73,6 +73,22 @@ once-each t a (suc k) = if eqb (times a t) 1 then once-each t (suc a) k else fal
 -- 12: "the nonzero entries are 1 to n, once each"
 abbrev pub is-table : List ℕ → Bool
 is-table t = once-each t 1 (named-in t)
+
+-- ---- The test of a table's n against machine code (document 02, W6)
+
+-- The published vars, of machine code: the addresses "seen from the last record backwards, .. at their first sight". The
+-- one seen last stands in front
+abbrev pub addresses : MachineCode → List ℕ
+addresses = mentions (λ (a : Address). a .0)
+
+-- whether numbers are, from the last one to the first, "1, 2 and on"
+unfoldable pub in-order : List ℕ → Bool
+in-order [] = true
+in-order (a ∷ xs) = eqb a (suc (length xs)) && in-order xs
+
+-- 14: "the addresses at their first sight are 1, 2 and on to n"
+abbrev pub agrees : MachineCode → ℕ → Bool
+agrees P n = in-order (addresses P) && eqb (length (addresses P)) n
 
 -- ---- The way back
 

@@ -1,0 +1,154 @@
+-- The machine code of a command names 1 to n in order, seen from the last record backwards (Claims: Pairs). An address is a
+-- variable's place from the end among those that were named, and renaming by what keeps names apart keeps the order of first
+-- sights.
+use mathlib.Core.Path.{_≡_, refl, sym, _∙_, ap, ap₂, subst}
+use Prim.Native.Nat.{ℕ, zero, suc, _<_}
+use native.Mathlib.Omega.{arith}
+use mathlib.Core.Bool.{Bool, true, false, _&&_}
+use mathlib.Core.List.{List, [], _∷_, map}
+use mathlib.Core.Option.{Option, none, some}
+use lib.Dec.{eqb}
+use lib.ListN.{length, getElem?, length-map}
+use borrow.Author.Tests.{eqb-true, eqb-false, eq-eqb, ne-eqb}
+use Rattle.base.specs.Acts.{if_then_else_}
+use Rattle.text.specs.Syntax.{Command}
+use Rattle.text.specs.Sizes.{cells}
+use Rattle.record.specs.Records.{Record, LOADI, LOAD, ADD, STORE, JMP, JMPLESS, JMPGE, AssemblyCode, named, rename, address}
+use Rattle.record.specs.declared.Variable.{Variable}
+use Rattle.record.specs.declared.Address.{Address}
+use Rattle.compile.specs.Claims.{Pairs}
+use Rattle.compile.specs.Compilation.{ccomp}
+use Rattle.compile.specs.Table.{member, once, mentions, vars, addr-of, to-m-prog, addresses, in-order}
+use Rattle.compile.proofs.Entries.{address-distinct, named-address, mentions-one, mentions-none}
+use Rattle.compile.proofs.Tables.{named-variables}
+
+-- ---- Renaming
+
+-- What a renamed record names
+pub named-renamed : {X Y : Type 0} (f : X → Y) (r : Record X) {x : X} → named r ≡ some x
+    → named (rename f r) ≡ some (f x)
+unfolding rename
+named-renamed f (LOADI z) e = let no : _≡_ {A = ℕ} 0 1 = cc in absurd (omega arith)
+named-renamed f (LOAD y) {x} e = let same : y ≡ x = cc in ap (λ v. some (f v)) same
+named-renamed f ADD e = let no : _≡_ {A = ℕ} 0 1 = cc in absurd (omega arith)
+named-renamed f (STORE y) {x} e = let same : y ≡ x = cc in ap (λ v. some (f v)) same
+named-renamed f (JMP i) e = let no : _≡_ {A = ℕ} 0 1 = cc in absurd (omega arith)
+named-renamed f (JMPLESS i) e = let no : _≡_ {A = ℕ} 0 1 = cc in absurd (omega arith)
+named-renamed f (JMPGE i) e = let no : _≡_ {A = ℕ} 0 1 = cc in absurd (omega arith)
+
+pub unnamed-renamed : {X Y : Type 0} (f : X → Y) (r : Record X) → named r ≡ none → named (rename f r) ≡ none
+unfolding rename
+unnamed-renamed f (LOADI z) e = refl
+unnamed-renamed f (LOAD y) e = let no : _≡_ {A = ℕ} 0 1 = cc in absurd (omega arith)
+unnamed-renamed f ADD e = refl
+unnamed-renamed f (STORE y) e = let no : _≡_ {A = ℕ} 0 1 = cc in absurd (omega arith)
+unnamed-renamed f (JMP i) e = refl
+unnamed-renamed f (JMPLESS i) e = refl
+unnamed-renamed f (JMPGE i) e = refl
+
+-- A number that g keeps apart from all others is among numbers where it is among what g makes of them.
+pub member-map : (g : ℕ → ℕ) (v : ℕ) → ((w : ℕ) → g v ≡ g w → v ≡ w) → (xs : List ℕ)
+    → member (g v) (map g xs) ≡ member v xs
+unfolding member
+member-map g v apart [] = refl
+member-map g v apart (x ∷ xs) = by (eqb x v) refl (member-map g v apart xs)
+  where
+    by : (b : Bool) → eqb x v ≡ b → member (g v) (map g xs) ≡ member v xs
+        → (if eqb (g x) (g v) then true else member (g v) (map g xs)) ≡ (if b then true else member v xs)
+    by true e m = simp (eq-eqb (g x) (g v) (ap g (eqb-true x v e)))
+    by false e m = simp (ne-eqb (g x) (g v) (λ q. eqb-false x v e (sym (apart x (sym q))))) m
+
+-- Names x become f x, and numbers u become g u, which keeps each number that is named apart from all others: then g makes of
+-- what the records name what the renamed records name, in the same order.
+module _ {X Y : Type 0} (number : X → ℕ) (number′ : Y → ℕ) (f : X → Y) (g : ℕ → ℕ)
+    (same : (x : X) → number′ (f x) ≡ g (number x)) where
+  abbrev pub Apart : List (Record X) → Type 0
+  Apart P = (p : ℕ) (x : X) (r : Record X) → getElem? P p ≡ some r → named r ≡ some x
+      → (w : ℕ) → g (number x) ≡ g w → number x ≡ w
+
+  pub mentions-renamed : (P : List (Record X)) → Apart P
+      → mentions number′ (map (rename f) P) ≡ map g (mentions number P)
+  unfolding mentions
+  mentions-renamed [] h = refl
+  mentions-renamed (r ∷ P) h = by (named r) refl (mentions-renamed P (λ p. h (suc p)))
+    where
+      xs : List ℕ
+      xs = mentions number P
+
+      ys : List ℕ
+      ys = mentions number′ (map (rename f) P)
+
+      grown : (x : X) → named r ≡ some x → (b : Bool) → member (number x) xs ≡ b → ys ≡ map g xs
+          → (if member (number′ (f x)) ys then ys else number′ (f x) ∷ ys)
+          ≡ map g (if b then xs else number x ∷ xs)
+      grown x e b m i =
+          ap₂ (λ (a : ℕ) (ys : List ℕ). if member a ys then ys else a ∷ ys) (same x) i
+          ∙ ap (λ (b : Bool). if b then map g xs else g (number x) ∷ map g xs)
+          (member-map g (number x) (h 0 x r refl e) xs ∙ m)
+          ∙ out b
+        where
+          out : (b : Bool) → (if b then map g xs else g (number x) ∷ map g xs) ≡ map g (if b then xs else number x ∷ xs)
+          out true = refl
+          out false = refl
+
+      by : (o : Option X) → named r ≡ o → ys ≡ map g xs
+          → mentions number′ (rename f r ∷ map (rename f) P) ≡ map g (mentions number (r ∷ P))
+      by none e i =
+          mentions-none number′ (rename f r) (map (rename f) P) (unnamed-renamed f r e) ∙ i
+          ∙ ap (map g) (sym (mentions-none number r P e))
+      by (some x) e i =
+          mentions-one number′ (rename f r) (map (rename f) P) (named-renamed f r e)
+          ∙ grown x e (member (number x) xs) refl i
+          ∙ ap (map g) (sym (mentions-one number r P e))
+
+-- ---- Addresses of what is named
+
+-- A variable more in front of xs, that is not among zs, changes none of their addresses.
+same-addresses : (v : ℕ) (xs zs : List ℕ) → member v zs ≡ false → map (addr-of (v ∷ xs)) zs ≡ map (addr-of xs) zs
+unfolding member addr-of
+same-addresses v xs [] m = refl
+same-addresses v xs (z ∷ zs) m = by (eqb z v) refl m (same-addresses v xs zs)
+  where
+    by : (b : Bool) → eqb z v ≡ b → (if b then true else member v zs) ≡ false
+        → (member v zs ≡ false → map (addr-of (v ∷ xs)) zs ≡ map (addr-of xs) zs)
+        → map (addr-of (v ∷ xs)) (z ∷ zs) ≡ map (addr-of xs) (z ∷ zs)
+    by true e m i = let no : _≡_ {A = ℕ} 0 1 = cc in absurd (omega arith)
+    by false e m i =
+        ap₂ _∷_ (simp (ne-eqb v z (λ q. eqb-false z v e (sym q)))) (i m)
+
+-- Variables whose addresses are in order
+abbrev Ordered : List ℕ → Type 0
+Ordered xs = in-order (map (addr-of xs) xs) ≡ true
+
+ordered-once : (v : ℕ) (xs : List ℕ) (b : Bool) → member v xs ≡ b → Ordered xs → Ordered (if b then xs else v ∷ xs)
+unfolding addr-of in-order
+ordered-once v xs true m i = i
+ordered-once v xs false m i =
+    simp (eq-eqb v v refl, same-addresses v xs xs m, length-map xs (addr-of xs), eq-eqb (suc (length xs)) (suc (length xs)) refl) i
+
+-- The variables that records name, each at its last mention, are such.
+ordered : (P : AssemblyCode) → Ordered (vars P)
+unfolding mentions in-order
+ordered [] = refl
+ordered (r ∷ P) = by (named r) refl (ordered P)
+  where
+    by : (o : Option Variable) → named r ≡ o → Ordered (vars P) → Ordered (vars (r ∷ P))
+    by none e i = subst Ordered (sym (mentions-none (λ v. v .0) r P e)) i
+    by (some v) e i =
+        subst Ordered (sym (mentions-one (λ v. v .0) r P e)) (ordered-once (v .0) (vars P) (member (v .0) (vars P)) refl i)
+
+-- ---- A command's machine code
+
+addresses-are : (P : AssemblyCode) → addresses (to-m-prog P) ≡ map (addr-of (vars P)) (vars P)
+addresses-are P =
+    mentions-renamed (λ v. v .0) (λ a. a .0) (λ v. address (addr-of (vars P) (v .0))) (addr-of (vars P)) (λ v. refl) P
+    (λ p v r e f w. address-distinct (vars P) (v .0) w (named-address P p v r e f))
+
+pub pairs : Pairs
+pairs c h =
+    let P = ccomp c in
+    rw (addresses-are P) (simp (
+      ordered P,
+      eq-eqb (length (map (addr-of (vars P)) (vars P))) (cells c)
+          (length-map (vars P) (addr-of (vars P)) ∙ named-variables c h .in-records),
+    ))
