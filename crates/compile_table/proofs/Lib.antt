@@ -3,4 +3,5 @@ pub mod Passing
 pub mod Bits
 pub mod Marks
 pub mod Marking
+pub mod Sights
 pub mod Cases

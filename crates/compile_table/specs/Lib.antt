@@ -1,3 +1,4 @@
 pub mod Tested
 pub mod Marks
+pub mod Sights
 pub mod Cases

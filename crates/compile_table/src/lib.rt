@@ -1,11 +1,15 @@
-// The test of a table that is read, and the addresses in it.
+// The test of a table that is read, and the addresses in it; the test of its n against machine code.
 use record::Address;
+use record::MLOAD;
+use record::MSTORE;
 use record::Variable;
 ghost use mathlib.Core.Path.{_≡_};
-ghost use Prim.Native.Nat.{_<_, _≤_};
+ghost use Prim.Native.Nat.{_+_, _*_, _<_, _≤_};
 ghost use lib.ListN.{length, getD};
+ghost use Rattle.compile.specs.Table as Table;
 ghost use Rattle.compile.specs.Table.{named-in};
 ghost use Rattle.compile_table.specs.Marks as Marks;
+ghost use Rattle.compile_table.specs.Sights.{address-at, Passed};
 ghost use Rattle.compile_table.specs.Tested.{tested};
 
 // The bits of a word, one for each address that a table can name.
@@ -87,4 +91,42 @@ pub fn names(table: &[u8]) -> Named
     } else {
         Named::NoTable
     }
+}
+
+// ---- The table's n and the addresses in machine code
+
+// The address that the machine record at an index names, 0 if it names none.
+fn address_at(code: &[u8], i: usize) -> usize
+    requires { ⌜ 5 * i + 1 < length (now code) ⌝ }
+    ensures { λ r. ⌜ r ≡ address-at (now (code .entry)) i ⌝ }
+{
+    let byte = record::byte_at(code, i);
+    if byte == MLOAD {
+        return record::name_at(code, i);
+    }
+    if byte == MSTORE {
+        return record::name_at(code, i);
+    }
+    0
+}
+
+// Whether the addresses in machine code, at their first sight from the last record backwards, are 1, 2 and on to n. While
+// they are in order, those seen are 1 to `seen`.
+pub fn agrees(code: &[u8], count: usize, n: usize) -> bool
+    requires { ⌜ Passed (now code) count n ⌝ }
+    ensures { λ r. ⌜ ((x : Passed (now (code .entry)) count n) → r ≡ Table.agrees (x .records) n) ⌝ }
+{
+    let mut seen = 0;
+    let mut i = count;
+    while 0 < i {
+        i -= 1;
+        let address = address_at(code, i);
+        if seen < address {
+            seen += 1;
+            if address != seen {
+                return false;
+            }
+        }
+    }
+    seen == n
 }

@@ -1,0 +1,23 @@
+-- The addresses in machine code, by its bytes (document 02, W6).
+use mathlib.Core.Path.{_≡_}
+use mathlib.Core.Bool.{_||_}
+use mathlib.Core.List.{List}
+use Prim.Native.Nat.{ℕ, _+_, _*_, _≤_}
+use lib.Dec.{eqb}
+use lib.ListN.{length, getD}
+use Rattle.base.specs.Acts.{if_then_else_}
+use Rattle.base.specs.Answers.{gives}
+use Rattle.record.specs.Records.{MachineCode}
+use Rattle.record.specs.Bytes.{machine-kind, records-from}
+
+-- The address that the bytes of MLOAD or MSTORE at an index name; 0 where another record stands there
+unfoldable pub address-at : List ℕ → ℕ → ℕ
+address-at code i =
+    if eqb (getD code (5 * i) 0) 0x51 || eqb (getD code (5 * i) 0) 0x53 then getD code (5 * i + 1) 0 else 0
+
+-- Code whose `count` records passed the test, with the n of a table
+pub record Passed (code : List ℕ) (count n : ℕ) : Type 0 where
+  pub records : MachineCode
+  pub given : records-from (machine-kind n) code 0 count ≡ gives records
+  pub bytes : 5 * count ≤ length code
+  pub few : n ≤ 64
