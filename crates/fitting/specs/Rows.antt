@@ -51,10 +51,13 @@ reading-back z l =
     let r = read-back-call (l .table) (l .memory) (z .depth) (l .store) in
     call (r .0) (buffers (l .code) (l .table) (l .memory) (r .1))
 
+-- the last three
+abbrev pub load-run-read : Sizes → ℕ → Row Lent Ran
+load-run-read z budget = do loading z; ran ← running z budget; reading-back z; give ran
+
 -- "Each gets what those before it returned or left, D and n from compiling among it"
 unfoldable pub fit : List ℕ → Lent → ℕ → Answer Ran × Lent
-fit text l budget =
-    answered ((do z ← compiling text; loading z; ran ← running z budget; reading-back z; give ran) l)
+fit text l budget = answered ((do z ← compiling text; load-run-read z budget) l)
 
 -- What demand 3 speaks of: the run's end, count and mark and the store read back; or the first refusal
 unfoldable pub four-calls : List ℕ → Compiled → List ℤ → Store → ℕ → Answer (Ran × Store)

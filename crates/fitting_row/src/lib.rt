@@ -13,9 +13,9 @@ ghost use Rattle.base.specs.Rows.{answered};
 ghost use Rattle.text.specs.Syntax.{Command};
 ghost use Rattle.text.specs.Reading.{read-text};
 ghost use Rattle.source.specs.Calls.{run-source};
-ghost use Rattle.fitting.specs.Rows.{buffers, fit};
+ghost use Rattle.fitting.specs.Rows.{buffers, load-run-read, fit};
 ghost use Rattle.fitting.specs.Demand3.{Ready};
-ghost use Rattle.fitting_row.specs.Rests.{from-running, from-loading};
+ghost use Rattle.fitting_row.specs.Rests.{from-running};
 
 // Runs the records written, from a fresh machine, and reads back into the store.
 fn run_and_read_back(
@@ -62,7 +62,7 @@ fn load_and_run(
       run-answer r,
       buffers (now (code .entry)) (now (table .entry)) (now (memory .exit)) (now (store .exit)),
     )
-        ≡ answered (from-loading sizes budget
+        ≡ answered (load-run-read sizes budget
         (buffers (now (code .entry)) (now (table .entry)) (now (memory .entry)) (now (store .entry)))) ⌝ }
 {
     match fitting_load::load(table, store, sizes.depth as u64, memory) {
