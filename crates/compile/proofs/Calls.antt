@@ -1,7 +1,7 @@
 -- The calls where their tests pass: what the tests give, and what each call then gives and leaves; and the other way,
 -- what was found where the tests gave a command. The tests are true one after the other; what reading gives is within the
 -- limits of texts.
-use mathlib.Core.Path.{_≡_, sym, _∙_, ap}
+use mathlib.Core.Path.{_≡_, sym, _∙_, ap, ap₂}
 use mathlib.Core.Bool.{true}
 use Prim.Native.Nat.{ℕ, _*_, _≤_}
 use native.Mathlib.Omega.{arith}
@@ -97,6 +97,30 @@ machine-length c =
 -- and what is written over a buffer stands at its start.
 pub taken-over : (new old : List ℕ) (n : ℕ) → length new ≡ n → take n (over new old) ≡ new
 taken-over new old n e = take-at new (drop (length new) old) n e
+
+-- What `compile` gave and left, by the command that was read
+pub record Wrote (text : List ℕ) (left : Compiled) (z : Sizes) : Type 0 where
+  pub command : Command
+  pub reads : read-text text ≡ gives command
+  pub sizes-are : z ≡ sizes command
+  pub code-is : take (5 * z .records) (left .code) ≡ machine-bytes command
+  pub table-is : left .table ≡ table (ccomp command)
+
+pub wrote : (text : List ℕ) (lent left : Compiled) (z : Sizes) → compile text lent ≡ (gives z, left)
+    → Wrote text left z
+unfolding compile
+wrote text lent left z e =
+    let g = gave (compile-tests text (lent .code) (lent .table)) sizes _ lent (sym e) in
+    let c : Command = g .value in
+    let size : 5 * z .records ≡ 5 * records c = ap (λ (z : Sizes). 5 * z .records) (g .tells) in
+    record {
+      command = c;
+      reads = compile-passed text (lent .code) (lent .table) (g .passed) .0;
+      sizes-are = g .tells;
+      code-is = ap₂ (λ (k : ℕ) (l : Compiled). take k (l .code)) size (g .leaves)
+          ∙ taken-over (machine-bytes c) (lent .code) (5 * records c) (machine-length c);
+      table-is = ap (λ (l : Compiled). l .table) (g .leaves);
+    }
 
 -- ---- What was written is within the output as it is left
 

@@ -1,7 +1,7 @@
 -- The call: what its tests found; it has one answer (Claims: OneAnswer); what `compile` writes passes
 -- (TextsPass); code that passes is run without ending short, full or astray (Inspects).
 use mathlib.Core.Path.{_≡_, refl, sym, _∙_, ap, subst}
-use Prim.Native.Nat.{ℕ, _+_, _*_, _≤_}
+use Prim.Native.Nat.{ℕ, _+_, _≤_}
 use native.Mathlib.Decide.{ℕ-discrete}
 use native.Mathlib.Omega.{arith}
 use mathlib.Core.Bool.{true, _&&_}
@@ -9,7 +9,7 @@ use mathlib.Core.List.{List}
 use borrow.Author.Tests.{le-leb, leb-true, eq-eqb}
 use lib.Dec.{leb}
 use lib.IntN.{ℤ}
-use lib.ListN.{length, take}
+use lib.ListN.{length}
 use Rattle.base.specs.Answers.{Answer, gives, refused, and-then}
 use Rattle.base.specs.Code.{count-answer}
 use Rattle.base.specs.Ends.{report}
@@ -17,11 +17,11 @@ use Rattle.base.specs.declared.Refusal.{Refusal}
 use Rattle.base.specs.declared.Count.{Count}
 use Rattle.base.specs.declared.Count.the-variants.{Refused, Gives}
 use Rattle.base.proofs.Answers.{gives-one}
-use Rattle.base.proofs.Settled.{not-both, unless-passed, needed, both, gave}
+use Rattle.base.proofs.Settled.{not-both, unless-passed, needed, both}
 use Rattle.word.specs.Sums.{sum32}
 use Rattle.text.specs.Syntax.{Command}
 use Rattle.text.specs.Encoding.{Within}
-use Rattle.text.specs.Sizes.{records, depth, cells, sizes}
+use Rattle.text.specs.Sizes.{records, depth, cells}
 use Rattle.text.proofs.Accepted.{accepted}
 use Rattle.text.proofs.Limits.{short, shallow, few}
 use Rattle.record.specs.Records.{MachineCode}
@@ -33,8 +33,8 @@ use Rattle.machine.specs.Calls.{machine-tests, machine-run}
 use Rattle.machine.proofs.Calls.{number-given, counted, refused-by, CodeFound, code-found, machine-runs}
 use Rattle.compile.specs.Compilation.{ccomp}
 use Rattle.compile.specs.Table.{to-m-prog}
-use Rattle.compile.specs.Calls.{compile-tests, machine-bytes, Compiled, compile}
-use Rattle.compile.proofs.Calls.{compile-passed, machine-count, machine-length, taken-over}
+use Rattle.compile.specs.Calls.{machine-bytes}
+use Rattle.compile.proofs.Calls.{machine-count, wrote}
 use Rattle.compile.proofs.Codes.{codes}
 use Rattle.inspection.specs.Heights.{Passing}
 use Rattle.inspection.specs.Calls.{inspect-tests, Judged, After, Inspected}
@@ -154,18 +154,12 @@ command-passes c within =
 
 -- what `compile` wrote
 pub texts-pass : TextsPass
-unfolding compile
 texts-pass text bytes lent left z e =
-    let g = gave (compile-tests text (lent .code) (lent .table)) sizes _ lent (sym e) in
-    let c : Command = g .value in
-    let read = compile-passed text (lent .code) (lent .table) (g .passed) .0 in
-    let code : take (5 * records c) (left .code) ≡ machine-bytes c =
-    ap (λ (l : Compiled). take (5 * records c) (l .code)) (g .leaves)
-    ∙ taken-over (machine-bytes c) (lent .code) (5 * records c) (machine-length c) in
-    subst (λ z. Inspected (take (5 * z .records) (left .code)) (z .depth) (z .cells) (gives (z .records)))
-    (sym (g .tells))
-    (subst (λ code. Inspected code (depth c) (cells c) (gives (records c))) (sym code)
-    (command-passes c (accepted text bytes c .0 read .0)))
+    let w = wrote text lent left z e in
+    let c = w .command in
+    subst (λ code. Inspected code (z .depth) (z .cells) (gives (z .records))) (sym (w .code-is))
+    (subst (λ z. Inspected (machine-bytes c) (z .depth) (z .cells) (gives (z .records))) (sym (w .sizes-are))
+    (command-passes c (accepted text bytes c .0 (w .reads) .0)))
 
 -- ---- Code that passes
 
