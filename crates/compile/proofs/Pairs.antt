@@ -2,23 +2,21 @@
 -- variable's place from the end among those that were named, and renaming by what keeps names apart keeps the order of first
 -- sights.
 use mathlib.Core.Path.{_≡_, refl, sym, _∙_, ap, ap₂, subst}
-use Prim.Native.Nat.{ℕ, zero, suc, _<_}
+use Prim.Native.Nat.{ℕ, suc}
 use native.Mathlib.Omega.{arith}
-use mathlib.Core.Bool.{Bool, true, false, _&&_}
+use mathlib.Core.Bool.{Bool, true, false}
 use mathlib.Core.List.{List, [], _∷_, map}
 use mathlib.Core.Option.{Option, none, some}
 use lib.Dec.{eqb}
 use lib.ListN.{length, getElem?, length-map}
 use borrow.Author.Tests.{eqb-true, eqb-false, eq-eqb, ne-eqb}
 use Rattle.base.specs.Acts.{if_then_else_}
-use Rattle.text.specs.Syntax.{Command}
 use Rattle.text.specs.Sizes.{cells}
 use Rattle.record.specs.Records.{Record, LOADI, LOAD, ADD, STORE, JMP, JMPLESS, JMPGE, AssemblyCode, named, rename, address}
 use Rattle.record.specs.declared.Variable.{Variable}
-use Rattle.record.specs.declared.Address.{Address}
 use Rattle.compile.specs.Claims.{Pairs}
 use Rattle.compile.specs.Compilation.{ccomp}
-use Rattle.compile.specs.Table.{member, once, mentions, vars, addr-of, to-m-prog, addresses, in-order}
+use Rattle.compile.specs.Table.{member, mentions, vars, addr-of, to-m-prog, addresses, in-order}
 use Rattle.compile.proofs.Entries.{address-distinct, named-address, mentions-one, mentions-none}
 use Rattle.compile.proofs.Tables.{named-variables}
 

@@ -1,16 +1,17 @@
 -- The preview of a loaded machine: what its tests say, one after the other, and what it comes to where they are passed.
 use mathlib.Core.Path.{_≡_, refl, sym, _∙_, ap}
-use Prim.Native.Nat.{ℕ, _+_}
+use Prim.Native.Nat.{ℕ, _+_, _≤_}
+use native.Mathlib.Omega.{arith}
 use mathlib.Core.Bool.{true, _&&_}
 use mathlib.Core.List.{List}
 use lib.Dec.{eqb}
 use lib.IntN.{ℤ}
 use lib.ListN.{length}
-use borrow.Author.Tests.{eq-eqb, le-leb}
+use borrow.Author.Tests.{eq-eqb, eqb-true, le-leb}
 use Rattle.base.specs.Answers.{Answer, gives, and-then}
 use Rattle.base.specs.Ends.{Ran}
 use Rattle.base.proofs.Answers.{gives-one}
-use Rattle.base.proofs.Settled.{unless-passed, needed, settled, preview-made}
+use Rattle.base.proofs.Settled.{unless-passed, needed, both, settled, preview-made}
 use Rattle.source.specs.Rules.{Store}
 use Rattle.record.specs.Records.{MachineCode}
 use Rattle.record.specs.Bytes.{whole-records}
@@ -27,6 +28,13 @@ names-own t store e =
     let sized = unless-passed (eqb (length t) 64 && eqb (length store) 64) 8 0 _ e in
     let table = unless-passed (is-table t) 12 0 _ (sized .1) in
     sym (gives-one _ _ (table .1))
+
+-- It is at most 64.
+pub names-few : (t : List ℕ) (store : Store) {n : ℕ} → table-tests t store ≡ gives n → n ≤ 64
+unfolding table-tests
+names-few t store e =
+    let sized = unless-passed (eqb (length t) 64 && eqb (length store) 64) 8 0 _ e in
+    omega (arith, eqb-true (length t) 64 (both _ _ (sized .0) .0), names-own t store e)
 
 module _ (code : List ℕ) (memory : List ℤ) (D : ℕ) (t : List ℕ) (store : Store) where
   abbrev n : ℕ

@@ -6,5 +6,6 @@ pub mod Counts
 pub mod Calls
 pub mod Rows
 pub mod Demand3
+pub mod Paired
 pub mod Previews
 pub mod Respelling

@@ -16,7 +16,7 @@ use Rattle.base.specs.Ends.{Result, Ran, report}
 use Rattle.base.proofs.Rows.{goes-on}
 use Rattle.text.specs.Syntax.{Command}
 use Rattle.text.specs.Reading.{read-text}
-use Rattle.text.specs.Encoding.{Within}
+use Rattle.text.specs.Encoding.{Valid, Within}
 use Rattle.text.specs.Sizes.{records, depth, cells, sized}
 use Rattle.text.proofs.Limits.{short, shallow, few}
 use Rattle.source.specs.Rules.{Store}
@@ -81,6 +81,16 @@ module _ (code t : List ℕ) (memory : List ℤ) (store : Store) (k D n budget :
 
 -- ---- The four calls
 
+-- The table of a command passes, with any store of 64 cells.
+pub table-passes : (c : Command) → Valid c → (store : Store) → length store ≡ 64
+    → table-tests (table (ccomp c)) store ≡ gives (cells c)
+unfolding table-tests
+table-passes c h store long = rw (tables c h .passes) (simp (
+  eq-eqb (length (table (ccomp c))) 64 (tables c h .long),
+  eq-eqb (length store) 64 long,
+  named-variables c h .in-table,
+))
+
 module _ (text : List ℕ) (c : Command) (read : read-text text ≡ gives c) (w : Within c)
     (lent : Compiled) (memory : List ℤ) (store : Store) (ready : Ready c lent memory store) (budget : ℕ) where
   abbrev P : MachineCode
@@ -99,12 +109,7 @@ module _ (text : List ℕ) (c : Command) (read : read-text text ≡ gives c) (w 
   few-records = omega (arith, short c, w .short)
 
   table-tested : table-tests t store ≡ gives n
-  unfolding table-tests
-  table-tested = rw (tables c (w .valid) .passes) (simp (
-    eq-eqb (length t) 64 (tables c (w .valid) .long),
-    eq-eqb (length store) 64 (ready .store-cells),
-    named-variables c (w .valid) .in-table,
-  ))
+  table-tested = table-passes c (w .valid) store (ready .store-cells)
 
   abbrev ready-memory : List ℤ
   ready-memory = loaded t D n store
