@@ -59,7 +59,7 @@ fn clear(memory: &mut [i32])
 }
 
 // Each named variable at its address.
-fn to_memory(table: &[u8], store: &[i32], depth: usize, memory: &mut [i32])
+pub fn to_memory(table: &[u8], store: &[i32], depth: usize, memory: &mut [i32])
     requires { ⌜ Fits (now table) (now store) depth (now memory) ⌝ }
     ensures { λ _. ⌜ now (memory .exit)
         ≡ Loading.fill (now (table .entry)) depth (now (store .entry)) (now (memory .entry)) ⌝ }
