@@ -65,6 +65,16 @@ mod exported {
             store_len: usize,
         ) -> u64;
         pub fn probe_inspect(code: *const u8, code_len: usize, depth: u64, cells: u64) -> u64;
+        pub fn probe_run_paired(
+            code: *const u8,
+            code_len: usize,
+            table: *const u8,
+            table_len: usize,
+            store: *mut i32,
+            store_len: usize,
+            depth: u64,
+            budget: u32,
+        ) -> u64;
         pub fn probe_preview_source(
             text: *const u8,
             text_len: usize,
@@ -216,6 +226,14 @@ pub fn read_back(table: &[u8], memory: &[i32], depth: u64, store: &mut [i32]) ->
 
 pub fn inspect(code: &[u8], depth: u64, cells: u64) -> Answer<usize> {
     answer(unsafe { exported::probe_inspect(code.as_ptr(), code.len(), depth, cells) }, count)
+}
+
+pub fn run_paired(code: &[u8], table: &[u8], store: &mut [i32], depth: u64, budget: u32) -> Answer<Ran> {
+    let (code_at, table_at, store_at) = (code.as_ptr(), table.as_ptr(), store.as_mut_ptr());
+    let packed = unsafe {
+        exported::probe_run_paired(code_at, code.len(), table_at, table.len(), store_at, store.len(), depth, budget)
+    };
+    answer(packed, ran)
 }
 
 pub fn preview_source(text: &[u8], store: &[i32], budget: u32, out: &mut [i32]) -> Answer<Ran> {

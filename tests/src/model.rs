@@ -738,6 +738,38 @@ pub fn inspect(code: &[u8], depth: u64, n: u64) -> Result<usize, Refusal> {
     inspected(code, depth, n).map(|heights| heights.len() - 1)
 }
 
+// ---- A table tested against its code (W6)
+
+/// 14: "seen from the last record backwards, the addresses at their first sight are 1, 2 and on to n".
+fn agree(machine: &[Record], n: usize) -> Result<(), Refusal> {
+    let mut seen = Vec::new();
+    for address in machine.iter().rev().filter_map(|record| record.name()) {
+        if !seen.contains(&address) {
+            seen.push(address);
+        }
+    }
+    if seen.into_iter().eq(1..=n) {
+        Ok(())
+    } else {
+        Err(Refusal(14, 0))
+    }
+}
+
+/// Loads a memory of its own, runs and reads back, whatever the end; or 9, 8, 12, 10, 14, 11 (D above 64).
+pub fn run_paired(code: &[u8], table: &[u8], store: &mut [i32], depth: u64, budget: u32) -> Result<Ran, Refusal> {
+    whole(code)?;
+    let n = cells_named(table, store)?;
+    agree(&records(code, 0x50, 1..=n as u64)?, n)?;
+    if depth > 64 {
+        return Err(Refusal(11, 0));
+    }
+    let mut memory = vec![0; depth as usize + 1 + n];
+    load(table, store, depth, &mut memory)?;
+    let ran = run_machine(code, &mut memory, depth, n as u64, budget)?;
+    read_back(table, &memory, depth, store)?;
+    Ok(ran)
+}
+
 // ---- The printing program
 
 fn spelled(record: Record, prefix: &str) -> String {

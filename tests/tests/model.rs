@@ -95,3 +95,14 @@ fn inspections() {
         assert_eq!(matching::count(got), call.count("records"), "line {}", call.line);
     }
 }
+
+#[test]
+fn paired_runs() {
+    for call in vectors::calls("run_paired") {
+        let mut store = call.cells("store");
+        let (code, table, depth) = (call.bytes("code"), call.bytes("table"), call.number("D"));
+        let got = model::run_paired(&code, &table, &mut store, depth, call.budget());
+        assert_eq!(matching::ran(got), call.ran(), "line {}", call.line);
+        assert_eq!(store, call.cells_after("store"), "line {}", call.line);
+    }
+}

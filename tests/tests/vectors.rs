@@ -124,3 +124,14 @@ fn inspect() {
         assert_eq!(got, call.count("records"), "line {}", call.line);
     }
 }
+
+#[test]
+fn run_paired() {
+    for call in vectors::calls("run_paired") {
+        let mut store = call.cells("store");
+        let (code, table, depth) = (call.bytes("code"), call.bytes("table"), call.number("D"));
+        let got = calls::run_paired(&code, &table, &mut store, depth, call.budget());
+        assert_eq!(got, call.ran(), "line {}", call.line);
+        assert_eq!(store, call.cells_after("store"), "line {}", call.line);
+    }
+}
