@@ -269,6 +269,24 @@ pub fn code(random: &mut Random, first: u8) -> Vec<u8> {
     code
 }
 
+/// Machine code that is done at once: a jump to the end, over records that name, from the last backwards, these addresses or,
+/// where it is 0, none.
+pub fn done_at_once(names: impl Iterator<Item = u8>) -> Vec<u8> {
+    let mut records: Vec<[u8; 5]> = names.map(|name| [if name == 0 { 0x50 } else { 0x53 }, name, 0, 0, 0]).collect();
+    let [low, high, ..] = records.len().to_le_bytes();
+    records.push([0x54, low, high, 0, 0]);
+    records.into_iter().rev().flatten().collect()
+}
+
+/// A table of so many names, the variables and their addresses in any order.
+pub fn table(random: &mut Random, n: usize) -> Vec<u8> {
+    let mut table: Vec<u8> = (0..64).map(|v| if v < n { v as u8 + 1 } else { 0 }).collect();
+    for v in (1..64).rev() {
+        table.swap(v, random.below(v + 1));
+    }
+    table
+}
+
 /// Machine code with its D and n, as another tool than our compiler may write it.
 pub struct Foreign {
     pub code: Vec<u8>,
@@ -316,6 +334,30 @@ pub fn foreign(random: &mut Random, most: usize) -> Foreign {
 }
 
 impl Foreign {
+    /// The addresses numbered anew by their first sight from the last record backwards; n is then how many are named.
+    pub fn renumber(&mut self) {
+        let mut seen: Vec<[u8; 4]> = Vec::new();
+        for record in self.code.chunks_exact_mut(5).rev().filter(|record| [0x51, 0x53].contains(&record[0])) {
+            let address = record[1..].try_into().unwrap();
+            let at = seen.iter().position(|&one| one == address).unwrap_or(seen.len());
+            if at == seen.len() {
+                seen.push(address);
+            }
+            record[1..].copy_from_slice(&(at as i32 + 1).to_le_bytes());
+        }
+        self.cells = seen.len();
+    }
+
+    /// One of its jumps, where it has any, sent out of the code.
+    pub fn stray(&mut self, random: &mut Random) {
+        let jumps: Vec<usize> = (0..self.code.len()).step_by(5).filter(|&at| self.code[at] >= 0x54).collect();
+        if !jumps.is_empty() {
+            let at = jumps[random.below(jumps.len())];
+            let by = [-5000, 5000, i32::MIN, i32::MAX][random.below(4)];
+            self.code[at + 1..at + 5].copy_from_slice(&by.to_le_bytes());
+        }
+    }
+
     /// One record exchanged, dropped or doubled, one operand changed, or one stack cell less.
     pub fn damage(&mut self, random: &mut Random) {
         if self.code.is_empty() {

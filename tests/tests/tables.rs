@@ -1,19 +1,10 @@
 //! W4, the test of a table: every entry at every place of some tables, and random tables, beside the simple interpreter.
 
 use profile_tests::calls::{self, Answer};
-use profile_tests::generator::Random;
+use profile_tests::generator::{self, Random};
 use profile_tests::{matching, model};
 
 const TABLES: u64 = 4000;
-
-/// A table of so many names, the variables and their addresses in any order.
-fn table(random: &mut Random, n: usize) -> Vec<u8> {
-    let mut table: Vec<u8> = (0..64).map(|v| if v < n { v as u8 + 1 } else { 0 }).collect();
-    for v in (1..64).rev() {
-        table.swap(v, random.below(v + 1));
-    }
-    table
-}
 
 /// What the calls that take a table find in it: loading and reading back with a memory that fits the nonzero entries, and
 /// going back from no records.
@@ -42,7 +33,7 @@ const NO_TABLE: Answer<usize> = Answer::Refused { number: 12, place: 0 };
 #[test]
 fn every_entry_at_every_place() {
     for n in [0, 1, 7, 63, 64] {
-        let table = table(&mut Random::new(n as u64), n);
+        let table = generator::table(&mut Random::new(n as u64), n);
         for v in 0..64 {
             let passing: Vec<usize> = (0..=255)
                 .filter(|&entry| {
@@ -68,7 +59,7 @@ fn random_tables() {
     for seed in 0..TABLES {
         let random = &mut Random::new(seed);
         let n = random.below(65);
-        let mut table = table(random, n);
+        let mut table = generator::table(random, n);
         assert_eq!(found(&table, &format!("seed {seed}")), Answer::Gives(n), "seed {seed}");
         for _ in 0..random.below(3) {
             let v = random.below(64);
