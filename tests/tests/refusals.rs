@@ -1,6 +1,6 @@
 //! Bad input gets its numbered refusal with its place, and nothing is changed.
 
-use profile_tests::calls::{read, run_source, Answer, Sizes};
+use profile_tests::calls::{read, run_paired, run_source, Answer, End, Ran, Sizes};
 
 fn refused<T>(number: u8, place: u32) -> Answer<T> {
     Answer::Refused { number, place }
@@ -75,5 +75,107 @@ fn stores_of_any_length() {
         assert_eq!(run_source(&[0x00], &mut store, 1), refused(8, 0));
         assert_eq!(store, vec![7; length]);
         assert_eq!(run_source(&[0x7f], &mut store, 1), refused(2, 0));
+    }
+}
+
+/// The code of x0 := x1 + 5, which names x1 with address 2 and x0 with address 1.
+const PAIRED: [[u8; 5]; 4] = [[0x51, 2, 0, 0, 0], [0x50, 5, 0, 0, 0], [0x52, 0, 0, 0, 0], [0x53, 1, 0, 0, 0]];
+
+/// A table whose first entries are these.
+fn table(first: &[u8]) -> Vec<u8> {
+    [first, &vec![0; 64 - first.len()]].concat()
+}
+
+/// A paired run of these, with so many cells lent for the store: its answer; where it declines, the store stays.
+fn paired(code: &[u8], table: &[u8], cells: usize, depth: u64) -> Answer<Ran> {
+    let mut store = vec![7; cells];
+    let answer = run_paired(code, table, &mut store, depth, 1000);
+    if let Answer::Refused { .. } = answer {
+        assert_eq!(store, vec![7; cells]);
+    }
+    answer
+}
+
+#[test]
+fn paired_runs_of_any_lengths() {
+    let code = PAIRED.concat();
+    let done = Answer::Gives(Ran { end: End::Done, count: 4, mark: 2 });
+    assert_eq!(paired(&code, &table(&[1, 2]), 64, 2), done);
+    for bytes in 1..5 {
+        assert_eq!(paired(&code[bytes..], &table(&[1, 2]), 64, 2), refused(9, 0));
+    }
+    assert_eq!(paired(&[0x54, 0, 0, 0, 0].repeat(4097), &table(&[]), 64, 2), refused(9, 0));
+    for length in (0..=130).filter(|&n| n != 64) {
+        assert_eq!(paired(&code, &table(&[1, 2]), length, 2), refused(8, 0));
+        assert_eq!(paired(&code, &vec![0; length], 64, 2), refused(8, 0));
+    }
+    for depth in [65, 66, 128, 256, 1 << 32, u64::MAX] {
+        assert_eq!(paired(&code, &table(&[1, 2]), 64, depth), refused(11, 0));
+    }
+}
+
+/// Tables that are none, records that are none and addresses that the table has not, the first of them at its index.
+#[test]
+fn paired_runs_of_any_tables_and_records() {
+    let code = PAIRED.concat();
+    for first in [&[1, 1][..], &[2], &[1, 3], &[1, 2, 2], &[1, 2, 65], &[1, 2, 255]] {
+        assert_eq!(paired(&code, &table(first), 64, 2), refused(12, 0), "{first:?}");
+    }
+    assert_eq!(paired(&code, &table(&[1]), 64, 2), refused(10, 0));
+    let bad = [[0x57, 0, 0, 0, 0], [0x41, 1, 0, 0, 0], [0x52, 1, 0, 0, 0], [0x51, 0, 0, 0, 0], [0x53, 1, 1, 0, 0]];
+    for (index, record) in (0..4).flat_map(|index| bad.map(|record| (index, record))) {
+        let mut records = PAIRED;
+        records[index..].fill(record);
+        assert_eq!(paired(&records.concat(), &table(&[1, 2]), 64, 2), refused(10, index as u32), "{record:02x?}");
+    }
+}
+
+/// Addresses that come up in another order, addresses too few, and records that are not reached.
+#[test]
+fn paired_runs_that_disagree() {
+    let [load, constant, sum, store] = PAIRED;
+    let over = [0x54, 1, 0, 0, 0];
+    for (records, names) in [
+        (vec![load, constant, sum, [0x53, 2, 0, 0, 0]], 2),
+        (vec![[0x51, 1, 0, 0, 0], constant, sum, [0x53, 2, 0, 0, 0]], 2),
+        (vec![constant, store], 2),
+        (vec![load, constant, sum, store], 3),
+        (vec![over, load, constant, store, load], 2),
+        (vec![constant], 1),
+        (vec![], 1),
+    ] {
+        let table = table(&(1..=names).collect::<Vec<u8>>());
+        assert_eq!(paired(&records.concat(), &table, 64, 2), refused(14, 0), "{records:02x?}");
+    }
+    let done = Answer::Gives(Ran { end: End::Done, count: 3, mark: 1 });
+    assert_eq!(paired(&[over, load, constant, store].concat(), &table(&[1, 2]), 64, 2), done);
+}
+
+/// What a paired run is lent with the faults of these refusals: 10 at record 2.
+fn faulty(numbers: [u8; 2]) -> (Vec<u8>, Vec<u8>, usize, u64) {
+    let has = |number| numbers.contains(&number);
+    let (mut records, mut table) = (PAIRED, table(&[1, 2]));
+    if has(14) {
+        (records[0][1], records[3][1]) = (1, 2);
+    }
+    if has(10) {
+        records[2][1] = 1;
+    }
+    if has(12) {
+        table[2] = 2;
+    }
+    let bytes = if has(9) { 19 } else { 20 };
+    (records.concat()[..bytes].to_vec(), table, if has(8) { 63 } else { 64 }, if has(11) { 65 } else { 2 })
+}
+
+/// Each number alone, and the earlier of each two.
+#[test]
+fn order_of_a_paired_run() {
+    let order = [(9, 0), (8, 0), (12, 0), (10, 2), (14, 0), (11, 0)];
+    for (i, &(number, place)) in order.iter().enumerate() {
+        for &(other, _) in &order[i..] {
+            let (code, table, cells, depth) = faulty([number, other]);
+            assert_eq!(paired(&code, &table, cells, depth), refused(number, place), "{number} and {other}");
+        }
     }
 }
