@@ -1,5 +1,6 @@
-/* The native stack that each exported call uses, and the inspection, through its probe. The call runs on a stack of its
- * own, painted before; the lowest byte that lost its paint tells how far it went. What an empty call uses is taken off.
+/* The native stack that each exported call uses, and the inspection and the paired run, through their probes. The call runs
+ * on a stack of its own, painted before; the lowest byte that lost its paint tells how far it went. What an empty call uses is
+ * taken off.
  *
  *     stack TEXT_FILE...
  *
@@ -14,12 +15,16 @@
 #include "profile.h"
 
 uint64_t probe_inspect(const uint8_t *code, size_t code_length, uint64_t depth, uint64_t cells);
+uint64_t probe_run_paired(const uint8_t *code, size_t code_length, const uint8_t *table, size_t table_length, int32_t *store,
+                          size_t store_length, uint64_t depth, uint32_t budget);
 
 enum { LONGEST = 4096, RECORD = 5, SPACE = 1 << 20, PAINT = 0xa5, LIMIT = 32 * 1024 };
 
 static uint8_t text[LONGEST + 1], code[RECORD * LONGEST], assembly[RECORD * LONGEST], table[64];
+static int32_t store[64];
 static size_t length;
 static unsigned records;
+static int refused; /* whether a paired run of any records was */
 
 /* The calls, on the buffers above. */
 static void nothing(void) {}
@@ -34,6 +39,11 @@ static void going_back(void)
     profile_go_back(code, RECORD * (size_t)records, table, sizeof table, assembly, sizeof assembly);
 }
 static void inspecting(void) { probe_inspect(code, RECORD * (size_t)records, 64, 64); }
+static void running_paired(void)
+{
+    uint64_t answer = probe_run_paired(code, RECORD * (size_t)records, table, sizeof table, store, 64, 64, 1000);
+    refused |= records && profile_refusal(answer);
+}
 
 static struct {
     const char *name;
@@ -44,8 +54,9 @@ static struct {
     {"profile_compile", compiling, 0},
     {"profile_go_back", going_back, 0},
     {"probe_inspect", inspecting, 0},
+    {"probe_run_paired", running_paired, 0},
 };
-enum { INSPECT = 3, CALLS = sizeof calls / sizeof calls[0] };
+enum { INSPECT = 3, RUN_PAIRED, CALLS = sizeof calls / sizeof calls[0] };
 
 /* How many bytes of a fresh stack a call changes. */
 static size_t stack_used(void (*call)(void))
@@ -150,12 +161,14 @@ static void measure_file(const char *path)
     measure();
 }
 
-/* As many jumps as code may have records, each to the next. */
+/* As many jumps as code may have records, each to the next, and a table of no names. */
 static void measure_longest_code(void)
 {
     for (records = 0; records < LONGEST; records++)
         memcpy(code + RECORD * records, (uint8_t[RECORD]){0x54}, RECORD);
+    memset(table, 0, sizeof table);
     measure_call(INSPECT);
+    measure_call(RUN_PAIRED);
 }
 
 int main(int count, char **words)
@@ -166,9 +179,11 @@ int main(int count, char **words)
     for (int i = 1; i < count; i++)
         measure_file(words[i]);
     measure_longest_code();
+    if (refused)
+        fprintf(stderr, "a paired run is refused\n");
     for (int i = 0; i < CALLS; i++) {
         printf("%s: %zu bytes of stack\n", calls[i].name, calls[i].most);
         failed |= calls[i].most == 0 || calls[i].most > LIMIT;
     }
-    return failed;
+    return failed || refused;
 }
