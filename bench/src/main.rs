@@ -4,6 +4,7 @@ mod compiler;
 mod cursor;
 mod executors;
 mod inspection;
+mod pairs;
 mod previews;
 mod reader;
 mod runs;
@@ -40,9 +41,12 @@ fn main() {
     for budget in [10, 1_000_000] {
         previews::source(&profiles, budget);
         previews::machine(&profiles, budget);
+        pairs::texts(&profiles, budget);
     }
     previews::source(&loops, 1_000_000);
     previews::machine(&loops, 1_000_000);
+    pairs::texts(&loops, 1_000_000);
+    pairs::longest_code();
     tables::loading();
     tables::reading_back();
     inspection::codes(&[long.as_slice(), &profiles].concat());

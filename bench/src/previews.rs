@@ -9,7 +9,7 @@ use crate::timing::{compare, heading};
 use crate::translations::compiled;
 
 /// So many calls take about as long, whatever the budget.
-fn count(ran: Answer<Ran>) -> u32 {
+pub fn count(ran: Answer<Ran>) -> u32 {
     let Answer::Gives(ran) = ran else { panic!("{ran:?}") };
     10_000_000 / (500 + ran.count)
 }

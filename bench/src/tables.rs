@@ -11,7 +11,8 @@ const CALLS: u32 = 200_000;
 const DEPTH: usize = 64;
 
 /// How many variables a table names. Address a has bit a - 1 of one word.
-fn names(table: &[u8]) -> Result<usize, Refusal> {
+#[inline(always)]
+pub fn names(table: &[u8]) -> Result<usize, Refusal> {
     let (mut marks, mut n) = (0u64, 0);
     for &address in table {
         if address != 0 {
@@ -37,7 +38,7 @@ fn tested(table: &[u8], store: &[i32], depth: usize, memory: &[i32]) -> Result<u
 }
 
 #[inline(never)]
-fn load(table: &[u8], store: &[i32], depth: usize, memory: &mut [i32]) -> Result<usize, Refusal> {
+pub fn load(table: &[u8], store: &[i32], depth: usize, memory: &mut [i32]) -> Result<usize, Refusal> {
     let n = tested(table, store, depth, memory)?;
     memory.fill(0);
     for (&address, &value) in table.iter().zip(store) {
@@ -49,7 +50,7 @@ fn load(table: &[u8], store: &[i32], depth: usize, memory: &mut [i32]) -> Result
 }
 
 #[inline(never)]
-fn read_back(table: &[u8], memory: &[i32], depth: usize, store: &mut [i32]) -> Result<usize, Refusal> {
+pub fn read_back(table: &[u8], memory: &[i32], depth: usize, store: &mut [i32]) -> Result<usize, Refusal> {
     let n = tested(table, store, depth, memory)?;
     for (&address, value) in table.iter().zip(store) {
         if address != 0 {
@@ -60,7 +61,7 @@ fn read_back(table: &[u8], memory: &[i32], depth: usize, store: &mut [i32]) -> R
 }
 
 /// A table of so many names: the first of every so many variables, the last with address 1.
-fn table(n: usize) -> [u8; 64] {
+pub fn table(n: usize) -> [u8; 64] {
     let mut table = [0; 64];
     for address in 1..=n {
         table[(n - address) * 64 / n] = address as u8;
