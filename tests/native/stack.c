@@ -1,6 +1,6 @@
-/* The native stack that each exported call uses, and the inspection and the paired run, through their probes. The call runs
- * on a stack of its own, painted before; the lowest byte that lost its paint tells how far it went. What an empty call uses is
- * taken off.
+/* The native stack that each exported call uses, and the inspection and the paired run, through their probes. The call
+ * runs on a stack of its own, painted before; the lowest byte that lost its paint tells how far it went. What an empty
+ * call uses is taken off.
  *
  *     stack TEXT_FILE...
  *
@@ -15,8 +15,8 @@
 #include "profile.h"
 
 uint64_t probe_inspect(const uint8_t *code, size_t code_length, uint64_t depth, uint64_t cells);
-uint64_t probe_run_paired(const uint8_t *code, size_t code_length, const uint8_t *table, size_t table_length, int32_t *store,
-                          size_t store_length, uint64_t depth, uint32_t budget);
+uint64_t probe_run_paired(const uint8_t *code, size_t code_length, const uint8_t *table, size_t table_length,
+                          int32_t *store, size_t store_length, uint64_t depth, uint32_t budget);
 
 enum { LONGEST = 4096, RECORD = 5, SPACE = 1 << 20, PAINT = 0xa5, LIMIT = 32 * 1024 };
 

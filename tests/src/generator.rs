@@ -269,8 +269,8 @@ pub fn code(random: &mut Random, first: u8) -> Vec<u8> {
     code
 }
 
-/// Machine code that is done at once: a jump to the end, over records that name, from the last backwards, these addresses or,
-/// where it is 0, none.
+/// Machine code that is done at once: a jump to the end, over records that name, from the last backwards, these addresses
+/// or, where it is 0, none.
 pub fn done_at_once(names: impl Iterator<Item = u8>) -> Vec<u8> {
     let mut records: Vec<[u8; 5]> = names.map(|name| [if name == 0 { 0x50 } else { 0x53 }, name, 0, 0, 0]).collect();
     let [low, high, ..] = records.len().to_le_bytes();
