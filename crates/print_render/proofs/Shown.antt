@@ -4,11 +4,11 @@ use Prim.Native.Nat.{ℕ, _+_, _*_, _≤_}
 use native.Mathlib.Omega.{arith}
 use mathlib.Core.List.{List, _++_}
 use lib.IntN.{ℤ}
-use lib.ListN.{length}
+use lib.ListN.{length, take}
 use Rattle.base.specs.Answers.{Answer, gives, refused}
 use Rattle.base.specs.Ends.{Ran}
 use Rattle.base.proofs.Answers.{gives-one}
-use Rattle.base.proofs.Settled.{needed}
+use Rattle.base.proofs.Settled.{not-both, needed}
 use Rattle.text.specs.Syntax.{Command}
 use Rattle.text.specs.Reading.{read-text}
 use Rattle.text.specs.Encoding.{Bytes}
@@ -21,18 +21,18 @@ use Rattle.text.proofs.Limits.{shallow, few}
 use Rattle.source.specs.Rules.{Store}
 use Rattle.source.specs.Calls.{run-source}
 use Rattle.source.specs.Cases.{zeros}
+use Rattle.source.proofs.Calls.{source-runs}
 use Rattle.record.specs.Bytes.{assembly-kind, machine-kind, code-bytes, over, records-from}
 use Rattle.record.proofs.Reading.{assembly-lawful, machine-lawful}
 use Rattle.record.proofs.Written.{records-of-written}
 use Rattle.compile.specs.Compilation.{ccomp}
 use Rattle.compile.specs.Table.{to-m-prog, table}
-use Rattle.compile.specs.Calls.{assemble, machine-bytes}
+use Rattle.compile.specs.Calls.{assemble, machine-bytes, Compiled, compile}
+use Rattle.compile.specs.Cases.{code-and-table}
 use Rattle.compile.proofs.Sizes.{record-count}
-use Rattle.compile.proofs.Calls.{read-fits, assembled, machine-count}
-use Rattle.compile.proofs.Codes as Compiled
-use Rattle.fitting.specs.Rows.{Lent, buffers, fit}
-use Rattle.fitting.specs.Demand3.{Ready, RowFitted}
-use Rattle.fitting.proofs.Demand3.{fitted, rows-fitted}
+use Rattle.compile.proofs.Calls.{read-fits, assembled, compiled, machine-count}
+use Rattle.compile.proofs.Codes.{codes}
+use Rattle.fitting.specs.Paired.{ByCompiler}
 use Rattle.print.specs.Printing.{first-line, record-lines, run-lines, refusal-line, answer-lines, shown}
 use Rattle.print_records.specs.Lines.{Codes}
 use Rattle.print_render.specs.Lines.{lines, SomeCodes}
@@ -76,48 +76,36 @@ module _ (text : List ℕ) (bytes : Bytes text) (z : Sizes) (r : Read text z) wh
         omega (arith, few c, ap (λ (z : Sizes). z .cells) (r .tells)),
       )
 
-  -- ---- What assembling and the four calls in a row left
+  -- ---- What assembling, compiling and the run of the pair left
 
   module _ (a a′ : List ℕ) (y : Answer Sizes) (assembling : (y, a′) ≡ assemble text a) (room : 20480 ≤ length a)
-      (m m′ t t′ : List ℕ) (cs cs′ : List ℤ) (s′ : Store) (x : Answer Ran)
-      (fitting : (x, buffers m′ t′ cs′ s′) ≡ fit text (buffers m t cs zeros) 1000000)
-      (enough : 20480 ≤ length m) (long : length t ≡ 64) (size : length cs ≡ z .depth + 1 + z .cells) where
+      (m m′ t t′ : List ℕ) (y′ : Answer Sizes)
+      (compiling : (y′, code-and-table m′ t′) ≡ compile text (code-and-table m t))
+      (enough : 20480 ≤ length m) (long : length t ≡ 64) (s′ : Store) (x : Answer Ran)
+      (running : (text : List ℕ) → ByCompiler text (take (5 * z .records) m′) t′ (z .depth)
+      → run-source text zeros 1000000 ≡ (x, s′)) where
     records-fit : 5 * records c ≤ 20480
     records-fit = omega (arith, read-fits text bytes (r .read) .1)
-
-    ready : Ready c (record { code = m; table = t }) cs zeros
-    unfolding zeros
-    ready = record {
-      output = omega (arith, records-fit);
-      table-bytes = long;
-      memory-cells =
-          omega (
-            arith,
-            size,
-            ap (λ (z : Sizes). z .depth) (r .tells),
-            ap (λ (z : Sizes). z .cells) (r .tells),
-          );
-      store-cells = refl;
-    }
-
-    row-fitted : RowFitted text c (buffers m t cs zeros) 1000000
-    row-fitted = rows-fitted text bytes c (r .read) (buffers m t cs zeros) ready 1000000
 
     assembly-left : a′ ≡ over (code-bytes assembly-kind (ccomp c)) a
     assembly-left =
         ap (λ (p : Answer Sizes × List ℕ). p .1) (assembling ∙ assembled text a (r .read) (omega (arith, records-fit)))
 
+    compiles : _≡_ {A = Answer Sizes × Compiled}
+        (y′, code-and-table m′ t′) (gives (sizes c), code-and-table (over (machine-bytes c) m) (table (ccomp c)))
+    compiles = compiling ∙ compiled text (code-and-table m t) (r .read) long (omega (arith, records-fit))
+
     machine-left : m′ ≡ over (machine-bytes c) m
-    machine-left = ap (λ (p : Answer Ran × Lent). p .1 .code) fitting ∙ row-fitted .same-code
+    machine-left = ap (λ (p : Answer Sizes × Compiled). p .1 .code) compiles
 
     table-left : t′ ≡ table (ccomp c)
-    table-left = ap (λ (p : Answer Ran × Lent). p .1 .table) fitting ∙ row-fitted .same-table
+    table-left = ap (λ (p : Answer Sizes × Compiled). p .1 .table) compiles
 
     -- Both codes are the records of the command.
     codes-left : Codes a′ m′ (z .records) (cells c) (ccomp c) (to-m-prog (ccomp c))
     codes-left =
         let fits = read-fits text bytes (r .read) in
-        let holds = Compiled.codes c (fits .0) (fits .1) in
+        let holds = codes c (fits .0) (fits .1) in
         let count = ap (λ (z : Sizes). z .records) (r .tells) in
         record {
           of-assembly =
@@ -131,16 +119,24 @@ module _ (text : List ℕ) (bytes : Bytes text) (z : Sizes) (r : Read text z) wh
 
     -- The run is the text's,
     same-run : run-source text zeros 1000000 ≡ (x, s′)
-    same-run = row-fitted .same-run ∙ sym (ap (λ (p : Answer Ran × Lent). (p .0, p .1 .store)) fitting)
+    same-run = running text (record {
+      bytes = bytes;
+      lent = code-and-table m t;
+      left = code-and-table m′ t′;
+      sizes = z;
+      compiles =
+          sym compiling
+          ∙ (λ i. ((ap (λ (p : Answer Sizes × Compiled). p .0) compiles ∙ ap gives (sym (r .tells))) i, code-and-table m′ t′));
+      code-is = refl;
+      table-is = refl;
+      depth-is = refl;
+    })
 
     -- so it was not refused,
     not-refused : (number place : ℕ) → x ≡ refused number place → ⊥
+    unfolding zeros
     not-refused number place f =
-        let given = fitted text bytes c (r .read) (record { code = m; table = t }) cs zeros ready 1000000 in
-        let same : gives (given .0) ≡ refused number place =
-        ap (λ (p : Answer Ran × Store). p .0) (sym (given .3) ∙ same-run) ∙ f in
-        let no : _≡_ {A = ℕ} 0 1 = cc in
-        omega arith
+        not-both (sym f ∙ ap (λ (p : Answer Ran × Store). p .0) (sym same-run ∙ source-runs text c zeros 1000000 (r .read) refl))
 
     -- and these are the lines.
     lines-shown : (ran : Ran) → x ≡ gives ran

@@ -1,5 +1,5 @@
-// The whole of what the printing program prints for a text, as bytes in a lent buffer. What is run is the machine code:
-// compiled, loaded, run and read back.
+// The whole of what the printing program prints for a text, as bytes in a lent buffer. What is run is the machine code: the
+// text is compiled, and its code and table are run as a pair.
 ghost use Prim.Native.Nat.{ℕ, _*_, _≤_};
 ghost use mathlib.Core.Path.{_≡_};
 ghost use lib.ListN.{length};
@@ -14,7 +14,6 @@ ghost use Rattle.print_render.specs.Lines.{SomeCodes, lines};
 use base::End;
 use base::Run;
 use base::VARIABLES;
-use machine_step::Machine;
 use print_lines::LONGEST_OUTPUT;
 use record::MOST_RECORDS;
 use record::RECORD_BYTES;
@@ -31,13 +30,6 @@ fn code_buffer() -> [u8; CODE_BYTES]
     ensures { λ r. ⌜ 20480 ≡ length r ⌝ }
 {
     [0; CODE_BYTES]
-}
-
-// Zeros for the memory of any text: D, 1 and n cells.
-fn memory_buffer() -> [i32; Machine::MEMORY_CELLS]
-    ensures { λ r. ⌜ 129 ≡ length r ⌝ }
-{
-    [0; Machine::MEMORY_CELLS]
 }
 
 // The lines of a text that was accepted and run.
@@ -75,18 +67,12 @@ fn render_accepted(text: &[u8], out: &mut [u8], sizes: Sizes) -> usize
     let mut assembly = code_buffer();
     let mut machine = code_buffer();
     let mut table = [0u8; VARIABLES];
-    let mut memory = memory_buffer();
     let mut store = [0i32; VARIABLES];
     compile_assembly::assemble(text, &mut assembly);
-    let size = sizes.depth + 1 + sizes.cells;
-    match fitting_row::fit(
-        text,
-        &mut machine,
-        &mut table,
-        &mut memory[..size],
-        &mut store,
-        BUDGET,
-    ) {
+    compile_machine::compile(text, &mut machine, &mut table);
+    let size = RECORD_BYTES * sizes.records;
+    let depth = sizes.depth as u64;
+    match fitting_paired::run_paired(&machine[..size], &table, &mut store, depth, BUDGET) {
         Run::Refused(refusal) => print_lines::put_refusal(out, 0, refusal),
         Run::Ended { end, count, .. } => {
             put_lines(out, &assembly, &machine, &table, &store, sizes, end, count)

@@ -64,6 +64,18 @@ pub extern "C" fn probe_inspect(code: &[u8], depth: u64, cells: u64) -> u64 {
     pod_packing::pack_count(count)
 }
 
+#[no_mangle]
+pub extern "C" fn probe_run_paired(
+    code: &[u8],
+    table: &[u8],
+    store: &mut [i32],
+    depth: u64,
+    budget: u32,
+) -> u64 {
+    let run: Run = fitting_paired::run_paired(code, table, store, depth, budget);
+    pod_packing::pack_run(run)
+}
+
 // Cells written over as many lent ones.
 fn put_cells(cells: &[i32], out: &mut [i32]) {
     if cells.len() == out.len() {

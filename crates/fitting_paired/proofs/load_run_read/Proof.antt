@@ -1,8 +1,7 @@
 -- `load_run_read` meets its contract: the zeros with the store's variables in them are the loaded memory, and what is read back
 -- from the run on it is the call's store.
-use mathlib.Core.Path.{refl, ap, _∙_}
+use mathlib.Core.Path.{refl}
 use native.Mathlib.Omega.{arith}
-use lib.ListN.{length}
 use borrow.Author.Needs.{needs}
 use Rattle.compile.specs.Table.{named-in}
 use Rattle.fitting_paired.proofs.Running.{fits, runs-tested, read-back-is}

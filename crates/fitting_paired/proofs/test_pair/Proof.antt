@@ -2,7 +2,7 @@
 use mathlib.Core.Path.{sym, _∙_}
 use borrow.Author.Needs.{needs}
 use borrow.Author.Tests.{not-true, not-false}
-use Rattle.fitting_paired.proofs.Tests.{Counted, no-record, counted-records, passes, disagree, too-deep}
+use Rattle.fitting_paired.proofs.Tests.{no-record, counted-records, passes, disagree, too-deep}
 use Rattle.fitting_paired.proofs.Tests.{all-passed}
 use Rattle.fitting_paired.proofs.test_pair.Statement.{statement}
 use Rattle.fitting_paired.proofs.test_pair.Tie as tie

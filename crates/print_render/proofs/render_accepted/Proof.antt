@@ -1,10 +1,10 @@
--- The text is accepted, so assembling writes its assembly, and the four calls in a row come to its run (Shown).
-use mathlib.Core.Path.{_≡_, refl, ap}
-use Prim.Native.Nat.{_+_, _≤_}
+-- The text is accepted, so assembling and compiling write its codes and its table, and the run of the pair is its run (Shown).
+use mathlib.Core.Path.{_≡_, refl, sym, ap}
+use Prim.Native.Nat.{_*_, _≤_}
 use native.Mathlib.Omega.{arith}
 use borrow.Author.Needs.{needs}
 use mathlib.Core.List.{List}
-use lib.IntN.{ℤ}
+use Prim.Native.Nat.{ℕ}
 use lib.ListN.{length, take, length-take}
 use Rattle.base.specs.Code.{run-answer}
 use Rattle.text.specs.Encoding.{Bytes}
@@ -26,33 +26,30 @@ read-of s = was-read (s .args .text .now) _ (s .pre .1)
 small : (k : Begun) → let z = k .before .args .sizes in (z .records ≤ 4096) × (z .depth ≤ 63) × (z .cells ≤ 64)
 small k = let s : tie.Start = search in limits (s .args .text .now) (bytes-of k) _ (read-of s)
 
--- The memory lent has D + 1 + n cells.
-lent : (k : Begun) (m : List ℤ) → 129 ≡ length m → let z = k .before .args .sizes in
-    length (take (z .depth + 1 + z .cells) m) ≡ z .depth + 1 + z .cells
-lent k m e =
-    let s : tie.Start = search in
-    omega (arith, length-take (s .args .sizes .depth + 1 + s .args .sizes .cells) m, small k)
+module _ (f : tie.After-run-paired) where
+  abbrev compiled : tie.After-compile
+  compiled = search
 
-module _ (f : tie.After-fit) where
-  -- assembling, and the start
-  abbrev a : tie.After-assemble
-  a = f .before .before .before .before .before .before .before .before
+  abbrev assembled : tie.After-assemble
+  assembled = search
 
-  abbrev k : Begun
-  k = a .before .before .before .before .before .before
+  abbrev begun : Begun
+  begun = search
+
+  abbrev start : tie.Start
+  start = search
 
   -- What the calls came to
-  pub came-here : Came (k .before .args .text .now) (a .assemble .last .1 .0) (f .fit .last .1 .0)
-      (f .fit .last .1 .1 .0) (f .fit .last .1 .1 .1 .1 .0) (k .before .args .sizes) (run-answer (f .fit .result))
+  pub came-here : Came (start .args .text .now) (assembled .assemble .last .1 .0) (compiled .compile .last .1 .0)
+      (compiled .compile .last .1 .1 .0) (f .run-paired .last .1 .1 .0) (start .args .sizes)
+      (run-answer (f .run-paired .result))
   unfolding zeros
   came-here =
-      let memory : tie.After-memory-buffer = search in
       let second : tie.After-code-buffer2 = search in
       let first : tie.After-code-buffer = search in
-      let s : tie.Start = search in
-      came (s .args .text .now) (bytes-of k) _ (read-of s) _ _ _ (a .assemble .ensures)
-      (omega (arith, first .code-buffer .ensures)) _ _ _ _ _ _ _ _ (f .fit .ensures .0)
-      (omega (arith, second .code-buffer2 .ensures)) refl (lent k _ (memory .memory-buffer .ensures))
+      came (start .args .text .now) (bytes-of begun) _ (read-of start) _ _ _ (assembled .assemble .ensures)
+      (omega (arith, first .code-buffer .ensures)) _ _ _ _ _ (compiled .compile .ensures)
+      (omega (arith, second .code-buffer2 .ensures)) refl _ _ (f .run-paired .ensures .1)
 
 pub render-accepted-spec : {M : Type 1} → statement M
 render-accepted-spec =
@@ -60,21 +57,22 @@ render-accepted-spec =
     (tie.spec
     (λ c κs. search needs)
     (λ c κs. search needs)
+    (λ c. search needs)
     (λ c κs. search needs)
+    (λ c. search needs)
     (λ c. search needs)
     (λ c κs. search needs)
     (λ c. let k : Begun = search in omega (arith, small k))
-    (λ c. let k : Begun = search in omega (arith, small k))
-    (λ c. search needs)
-    (λ c. search needs)
     (λ c.
-    let m : tie.After-memory-buffer = search in
+    let m : tie.After-compile = search in
     let k : Begun = search in
-    omega (arith, small k, m .memory-buffer .ensures))
+    omega (arith, small k, m .compile .kept))
     (λ c.
-    let m : tie.After-memory-buffer = search in
+    let m : tie.After-compile = search in
     let k : Begun = search in
-    omega (arith, lent k (m .memory-buffer .result) (m .memory-buffer .ensures)))
+    let s : tie.Start = search in
+    omega (arith, small k, m .compile .kept, length-take (5 * s .args .sizes .records) (m .compile .last .1 .0)))
+    (λ c. search needs)
     (λ c. search needs)
     (λ c κs. search needs)
     (λ c. search needs)
@@ -85,19 +83,19 @@ render-accepted-spec =
     (λ c. search needs)
     (λ c. search needs)
     (λ c κs.
-    let f : tie.After-fit = search in
-    let b = small (k f) in
-    ((k f .before .pre .0, b .0), ((omega (arith, b), omega (arith, b)), ((omega arith, omega arith), came-here f .some))))
+    let f : tie.After-run-paired = search in
+    let b = small (begun f) in
+    ((start f .pre .0, b .0), ((omega (arith, b), omega (arith, b)), ((omega arith, omega arith), came-here f .some))))
     (λ c. search needs)
     (λ c.
     let no : tie.After-refusal = search in
-    let f : tie.After-fit = search in
+    let f : tie.After-run-paired = search in
     absurd (came-here f .never _ _ (ap run-answer (no .refusal .given .1))))
     (λ c. search needs)
     (λ c.
     let put : tie.After-put-lines = search in
     let x : tie.After-end = search in
-    let f : tie.After-fit = search in
+    let f : tie.After-run-paired = search in
     let w = came-here f in
     puts-is (put .put-lines .ensures (w .some .n) (w .some .P) (w .some .Q) (w .some .codes))
     (w .shows _ (ap run-answer (x .end .given .1))) refl))
