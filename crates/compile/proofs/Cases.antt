@@ -14,10 +14,10 @@ use Rattle.record.specs.Records.{rename}
 use Rattle.record.specs.Bytes.{first-byte, operand as record-operand, code-bytes, operation, name-of, option-map}
 use Rattle.record.specs.Bytes.{is-zero, record-of, in-front, records-from}
 use Rattle.compile.specs.Compilation.{acomp, bcomp, ccomp}
-use Rattle.compile.specs.Table.{member, once, mentions, addr-of, entries, times, once-each, variable-at}
+use Rattle.compile.specs.Table.{member, once, mentions, addr-of, entries, times, once-each, in-order, variable-at}
 use Rattle.compile.specs.Calls.{assemble-tests, assemble, compile-tests, compile, go-back-tests, go-back}
 use Rattle.compile.specs.Cases.{Listing, ShortListing, Addresses, BytesOfB, AssembleDeclines}
-use Rattle.compile.specs.Cases.{CompileDeclines, GoBackDeclines}
+use Rattle.compile.specs.Cases.{CompileDeclines, GoBackDeclines, Agreements}
 
 pub listing : Listing
 unfolding C·text then′ give and-then number-of number-at
@@ -56,6 +56,18 @@ bytes-of-B = record {
   assembled-in-22 = refl;
   compiled-in-22 = refl;
   back-in-22 = refl;
+}
+
+pub agreements : Agreements
+unfolding member once mentions in-order
+agreements = record {
+  of-I = refl;
+  no-address = refl;
+  not-forwards = refl;
+  two-left-out = refl;
+  too-few = refl;
+  too-many = refl;
+  not-reached = refl;
 }
 
 pub assemble-declines : AssembleDeclines

@@ -1,6 +1,8 @@
 -- The records of profile C, the addresses of profile I and the bytes of profile B (document 01, "Profiles to hold it
--- to"), and where the three calls decline ("When a call declines").
+-- to"), machine records that agree with n or don't (document 02, W6), and where the three calls decline ("When a call
+-- declines").
 use mathlib.Core.Path.{_≡_}
+use mathlib.Core.Bool.{true, false}
 use Prim.Native.Nat.{ℕ}
 use mathlib.Core.List.{List, [], _∷_, _++_}
 use lib.IntN.{pos, negsuc}
@@ -12,7 +14,7 @@ use Rattle.text.specs.Cases.{B·text, C·text, C·short, I·text, x64·text}
 use Rattle.record.specs.Records.{AssemblyCode, MachineCode, LOADI, LOAD, ADD, STORE, JMP, JMPGE, variable, address}
 use Rattle.record.specs.Cases.{five}
 use Rattle.compile.specs.Compilation.{ccomp}
-use Rattle.compile.specs.Table.{table, to-m-prog}
+use Rattle.compile.specs.Table.{table, to-m-prog, agrees}
 use Rattle.compile.specs.Calls.{Compiled, assemble, compile, go-back}
 
 -- the assembly, the machine code and the table of a text
@@ -40,6 +42,22 @@ abbrev pub Addresses : Type 0
 Addresses = (machine-of I·text ≡ gives (
     LOAD (address 2) ∷ STORE (address 3) ∷ LOAD (address 2) ∷ STORE (address 1) ∷ []))
     × (and-then (table-of I·text) (λ t. gives (take 4 t)) ≡ gives (3 ∷ 2 ∷ 1 ∷ 0 ∷ []))
+
+-- 14 (document 02, W6), of machine records and n.
+pub record Agreements : Type 0 where
+  -- profile I's: from the last record backwards 1, 2, 3, and 2 again
+  pub of-I : agrees (LOAD (address 2) ∷ STORE (address 3) ∷ LOAD (address 2) ∷ STORE (address 1) ∷ []) 3 ≡ true
+  -- no address, and n 0
+  pub no-address : agrees (ADD ∷ JMP (pos 0) ∷ []) 0 ≡ true
+  -- 2 before 1: in order from the first record on, but not from the last one backwards
+  pub not-forwards : agrees (LOAD (address 1) ∷ STORE (address 2) ∷ []) 2 ≡ false
+  -- 3 at its first sight after 1
+  pub two-left-out : agrees (LOAD (address 3) ∷ STORE (address 1) ∷ []) 3 ≡ false
+  -- 1 alone, and n 2; 1 and 2, and n 1
+  pub too-few : agrees (STORE (address 1) ∷ []) 2 ≡ false
+  pub too-many : agrees (LOAD (address 2) ∷ STORE (address 1) ∷ []) 1 ≡ false
+  -- a record that is never reached counts too: JMP 1 over LOAD 2
+  pub not-reached : agrees (JMP (pos 1) ∷ LOAD (address 2) ∷ STORE (address 1) ∷ []) 2 ≡ true
 
 -- ---- The bytes of B, whole
 

@@ -1,5 +1,5 @@
 -- Profiles A to K hold of the definitions, the calls decline, and B is previewed, by computation (Cases: MemoryOfI,
--- Profiles, LoadDeclines, ReadBackDeclines, PreviewsOfB, PreviewDeclines).
+-- Profiles, LoadDeclines, ReadBackDeclines, PreviewsOfB, PreviewDeclines, PairedEnds, PairedOfB, PairedDeclines).
 use mathlib.Core.Path.{refl}
 use Rattle.base.specs.Acts.{then′, give}
 use Rattle.base.specs.Answers.{and-then, settle, previewed}
@@ -24,13 +24,14 @@ use Rattle.record.specs.Bytes.{is-zero, record-of, in-front, records-from}
 use Rattle.machine.specs.Machine.{taken, pop, push, held, keep, in-range, next, land, jump, act, after, run-at, run}
 use Rattle.machine.specs.Calls.{machine-tests, run-machine}
 use Rattle.compile.specs.Compilation.{acomp, bcomp, ccomp}
-use Rattle.compile.specs.Table.{member, once, mentions, addr-of, entries, times, once-each}
+use Rattle.compile.specs.Table.{member, once, mentions, addr-of, entries, times, once-each, in-order}
 use Rattle.compile.specs.Calls.{compile-tests, compile}
 use Rattle.fitting.specs.Loading.{put, fill, got, read-back}
 use Rattle.fitting.specs.Calls.{table-tests, pod-tests, load, read-back-call, preview-tests, preview-machine}
 use Rattle.fitting.specs.Rows.{fit, four-calls}
+use Rattle.fitting.specs.Paired.{paired-tests, run-paired}
 use Rattle.fitting.specs.Cases.{cases, measured, by-rules, by-machine, Profiles, MemoryOfI, LoadDeclines}
-use Rattle.fitting.specs.Cases.{ReadBackDeclines, PreviewsOfB, PreviewDeclines}
+use Rattle.fitting.specs.Cases.{ReadBackDeclines, PreviewsOfB, PreviewDeclines, PairedEnds, PairedOfB, PairedDeclines}
 
 pub memory-of-I : MemoryOfI
 unfolding put fill
@@ -109,4 +110,47 @@ preview-declines = record {
   eight-twelve = refl;
   twelve-ten = refl;
   ten-eleven = refl;
+}
+
+pub paired-ends : PairedEnds
+unfolding and-then settle then′ give number-of number-at limited sum32 within target
+    operation name-of option-map is-zero record-of in-front records-from member once mentions in-order
+    taken pop push held keep in-range next land jump act after run-at run machine-tests run-machine
+    times once-each put fill got read-back table-tests pod-tests load read-back-call
+    call answered paired-tests run-paired
+paired-ends = refl
+
+pub paired-of-B : PairedOfB
+unfolding and-then settle then′ give number-of number-at limited sum32 within target
+    operation name-of option-map is-zero record-of in-front records-from member once mentions in-order
+    taken pop push held keep in-range next land jump act after run-at run machine-tests run-machine
+    times once-each put fill got read-back table-tests pod-tests load read-back-call
+    call answered paired-tests run-paired
+paired-of-B = refl
+
+pub paired-declines : PairedDeclines
+unfolding and-then settle then′ give number-of number-at limited sum32 within target
+    operation name-of option-map is-zero record-of in-front records-from member once mentions in-order
+    taken pop push held keep in-range next land jump act after run-at run machine-tests run-machine
+    times once-each put fill got read-back table-tests pod-tests load read-back-call
+    call answered paired-tests run-paired
+paired-declines = record {
+  nine = refl;
+  eight-store = refl;
+  eight-table = refl;
+  twelve = refl;
+  ten = refl;
+  ten-address-2 = refl;
+  ten-second = refl;
+  fourteen = refl;
+  fourteen-order = refl;
+  not-fourteen = refl;
+  eleven = refl;
+  not-eleven = refl;
+  nine-eight = refl;
+  eight-twelve = refl;
+  twelve-ten = refl;
+  twelve-fourteen = refl;
+  ten-fourteen = refl;
+  fourteen-eleven = refl;
 }

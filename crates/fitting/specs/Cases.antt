@@ -1,12 +1,12 @@
 -- Profiles A to K (document 01, "Profiles to hold it to"), as one table; where load and read_back decline ("When a call
--- declines"); and the preview of a loaded machine (document 02, W3).
+-- declines"); the preview of a loaded machine (document 02, W3); and code and table in one call (W6).
 use mathlib.Core.Path.{_≡_}
 use Prim.Native.Nat.{ℕ, _+_, _*_}
 use mathlib.Core.List.{List, [], _∷_, _++_, map}
 use lib.IntN.{ℤ, pos, negsuc}
 use lib.ListN.{getD, replicate, take}
 use Rattle.base.specs.Answers.{Answer, gives, refused, and-then}
-use Rattle.base.specs.Ends.{End, done, spent, fault, out-of-range, Ran, ran}
+use Rattle.base.specs.Ends.{End, done, spent, fault, short, full, out-of-range, astray, Ran, ran}
 use Rattle.text.specs.Syntax.{Command}
 use Rattle.text.specs.Reading.{read-text}
 use Rattle.text.specs.Sizes.{records, depth, cells}
@@ -25,6 +25,7 @@ use Rattle.compile.specs.Cases.{B·machine, B·table, two-ones}
 use Rattle.fitting.specs.Loading.{loaded}
 use Rattle.fitting.specs.Calls.{load, read-back-call, preview-machine}
 use Rattle.fitting.specs.Rows.{four-calls}
+use Rattle.fitting.specs.Paired.{run-paired}
 
 -- A text and a budget; the assembly records; D; n; the addresses of x0, x1 and x2; and, starting from zeros, the end,
 -- the count, the mark and x0
@@ -232,3 +233,69 @@ pub record PreviewDeclines : Type 0 where
   pub twelve-ten : preview-machine (five 0x52 1) (memory 5) 2 (two-ones 62) (sevens 64) 9 ≡ (refused 12 0, zeros)
   -- 10, and 11: `52 01 00 00 00`, and 3 cells
   pub ten-eleven : preview-machine (five 0x52 1) (memory 3) 2 one-entry (sevens 64) 9 ≡ (refused 10 0, zeros)
+
+-- ---- Code and its table in one call
+
+-- x0 becomes 9, and then comes what the rest comes to; x0 has address 1, D is 2
+abbrev pub after-nine : List ℕ → ℕ → Answer Ran × Store
+after-nine rest budget = run-paired (five 0x50 9 ++ (five 0x53 1 ++ rest)) one-entry (sevens 64) 2 budget
+
+-- "Loads, runs and reads back", whatever the end: x0 is 9, and every other variable is as it was. The rest is nothing;
+-- MLOADI 0, past the budget; MADD; three times MLOADI 0; 2147483647 + 1; MJMP 1.
+abbrev pub PairedEnds : Type 0
+PairedEnds =
+    after-nine [] 9
+    ∷ after-nine (five 0x50 0) 2
+    ∷ after-nine (five 0x52 0) 9
+    ∷ after-nine (five 0x50 0 ++ (five 0x50 0 ++ five 0x50 0)) 9
+    ∷ after-nine (0x50 ∷ 0xff ∷ 0xff ∷ 0xff ∷ 0x7f ∷ five 0x50 1 ++ five 0x52 0) 9
+    ∷ after-nine (five 0x54 1) 9
+    ∷ []
+    ≡ map (λ r. (gives r, pos 9 ∷ sevens 63)) (
+      ran done 2 1
+      ∷ ran spent 2 1
+      ∷ ran (fault short) 3 1
+      ∷ ran (fault full) 5 2
+      ∷ ran (fault out-of-range) 5 2
+      ∷ ran (fault astray) 3 1
+      ∷ [])
+
+-- B's machine code with its table and D, from sevens: x1 is loaded, and x0 read back once it is stored.
+abbrev pub PairedOfB : Type 0
+PairedOfB = run-paired B·machine B·table (sevens 64) 2 3 ∷ run-paired B·machine B·table (sevens 64) 2 4 ∷ []
+    ≡ (gives (ran spent 3 2), sevens 64) ∷ (gives (ran done 4 2), pos 12 ∷ sevens 63) ∷ []
+
+-- Where it declines, of code, table, store and D under budget 9: number and place, and the store as it was.
+pub record PairedDeclines : Type 0 where
+  -- 9: 4 bytes
+  pub nine : run-paired (replicate 4 0x50) one-entry (sevens 64) 2 9 ≡ (refused 9 0, sevens 64)
+  -- 8: a store of 63 cells; a table of 63 bytes
+  pub eight-store : run-paired (five 0x53 1) one-entry (sevens 63) 2 9 ≡ (refused 8 0, sevens 63)
+  pub eight-table : run-paired (five 0x53 1) (1 ∷ replicate 62 0) (sevens 64) 2 9 ≡ (refused 8 0, sevens 64)
+  -- 12: two entries 1
+  pub twelve : run-paired (five 0x51 2 ++ five 0x53 1) (two-ones 62) (sevens 64) 2 9 ≡ (refused 12 0, sevens 64)
+  -- 10: `52 01 00 00 00`; the address 2, where the table names one variable; at index 1
+  pub ten : run-paired (five 0x52 1 ++ five 0x53 1) one-entry (sevens 64) 2 9 ≡ (refused 10 0, sevens 64)
+  pub ten-address-2 : run-paired (five 0x51 2 ++ five 0x53 1) one-entry (sevens 64) 2 9 ≡ (refused 10 0, sevens 64)
+  pub ten-second : run-paired (five 0x51 1 ++ five 0x51 0) one-entry (sevens 64) 2 9 ≡ (refused 10 1, sevens 64)
+  -- 14: no address, where the table names one variable; 2 seen before 1
+  pub fourteen : run-paired (five 0x50 0) one-entry (sevens 64) 2 9 ≡ (refused 14 0, sevens 64)
+  pub fourteen-order : run-paired (five 0x51 1 ++ five 0x51 2) B·table (sevens 64) 2 9 ≡ (refused 14 0, sevens 64)
+  -- 1 seen before 2: it runs
+  pub not-fourteen : run-paired (five 0x51 2 ++ five 0x51 1) B·table (sevens 64) 2 9
+      ≡ (gives (ran done 2 2), sevens 64)
+  -- 11: D 65; with 64 it runs
+  pub eleven : run-paired (five 0x51 1) one-entry (sevens 64) 65 9 ≡ (refused 11 0, sevens 64)
+  pub not-eleven : run-paired (five 0x51 1) one-entry (sevens 64) 64 9 ≡ (gives (ran done 1 1), sevens 64)
+  -- 9, and 8: 4 bytes, and a store of 63 cells
+  pub nine-eight : run-paired (replicate 4 0x50) one-entry (sevens 63) 2 9 ≡ (refused 9 0, sevens 63)
+  -- 8, and 12: a store of 63 cells, and two entries 1
+  pub eight-twelve : run-paired (five 0x53 1) (two-ones 62) (sevens 63) 2 9 ≡ (refused 8 0, sevens 63)
+  -- 12, and 10: two entries 1, and `52 01 00 00 00`
+  pub twelve-ten : run-paired (five 0x52 1) (two-ones 62) (sevens 64) 2 9 ≡ (refused 12 0, sevens 64)
+  -- 12, and 14: two entries 1, and no address
+  pub twelve-fourteen : run-paired (five 0x50 0) (two-ones 62) (sevens 64) 2 9 ≡ (refused 12 0, sevens 64)
+  -- 10, and 14: `52 01 00 00 00`, and no address
+  pub ten-fourteen : run-paired (five 0x52 1) one-entry (sevens 64) 2 9 ≡ (refused 10 0, sevens 64)
+  -- 14, and 11: no address, and D 65
+  pub fourteen-eleven : run-paired (five 0x50 0) one-entry (sevens 64) 65 9 ≡ (refused 14 0, sevens 64)
