@@ -118,7 +118,14 @@ unfolding and-then settle then′ give number-of number-at limited sum32 within 
     taken pop push held keep in-range next land jump act after run-at run machine-tests run-machine
     times once-each put fill got read-back table-tests pod-tests load read-back-call
     call answered paired-tests run-paired
-paired-ends = refl
+paired-ends = record {
+  ends-done = refl;
+  ends-spent = refl;
+  ends-short = refl;
+  ends-full = refl;
+  ends-out-of-range = refl;
+  ends-astray = refl;
+}
 
 pub paired-of-B : PairedOfB
 unfolding and-then settle then′ give number-of number-at limited sum32 within target
@@ -126,7 +133,7 @@ unfolding and-then settle then′ give number-of number-at limited sum32 within 
     taken pop push held keep in-range next land jump act after run-at run machine-tests run-machine
     times once-each put fill got read-back table-tests pod-tests load read-back-call
     call answered paired-tests run-paired
-paired-of-B = refl
+paired-of-B = record { under-3 = refl; under-4 = refl }
 
 pub paired-declines : PairedDeclines
 unfolding and-then settle then′ give number-of number-at limited sum32 within target

@@ -240,30 +240,28 @@ pub record PreviewDeclines : Type 0 where
 abbrev pub after-nine : List ℕ → ℕ → Answer Ran × Store
 after-nine rest budget = run-paired (five 0x50 9 ++ (five 0x53 1 ++ rest)) one-entry (sevens 64) 2 budget
 
--- "Loads, runs and reads back", whatever the end: x0 is 9, and every other variable is as it was. The rest is nothing;
--- MLOADI 0, past the budget; MADD; three times MLOADI 0; 2147483647 + 1; MJMP 1.
-abbrev pub PairedEnds : Type 0
-PairedEnds =
-    after-nine [] 9
-    ∷ after-nine (five 0x50 0) 2
-    ∷ after-nine (five 0x52 0) 9
-    ∷ after-nine (five 0x50 0 ++ (five 0x50 0 ++ five 0x50 0)) 9
-    ∷ after-nine (0x50 ∷ 0xff ∷ 0xff ∷ 0xff ∷ 0x7f ∷ five 0x50 1 ++ five 0x52 0) 9
-    ∷ after-nine (five 0x54 1) 9
-    ∷ []
-    ≡ map (λ r. (gives r, pos 9 ∷ sevens 63)) (
-      ran done 2 1
-      ∷ ran spent 2 1
-      ∷ ran (fault short) 3 1
-      ∷ ran (fault full) 5 2
-      ∷ ran (fault out-of-range) 5 2
-      ∷ ran (fault astray) 3 1
-      ∷ [])
+abbrev pub nine-left : Ran → Answer Ran × Store
+nine-left r = (gives r, pos 9 ∷ sevens 63)
+
+-- "Loads, runs and reads back", whatever the end: x0 is 9, and every other variable is as it was.
+pub record PairedEnds : Type 0 where
+  pub ends-done : after-nine [] 9 ≡ nine-left (ran done 2 1)
+  -- MLOADI 0, past the budget
+  pub ends-spent : after-nine (five 0x50 0) 2 ≡ nine-left (ran spent 2 1)
+  -- MADD
+  pub ends-short : after-nine (five 0x52 0) 9 ≡ nine-left (ran (fault short) 3 1)
+  -- three times MLOADI 0
+  pub ends-full : after-nine (five 0x50 0 ++ (five 0x50 0 ++ five 0x50 0)) 9 ≡ nine-left (ran (fault full) 5 2)
+  -- 2147483647 + 1
+  pub ends-out-of-range : after-nine (0x50 ∷ 0xff ∷ 0xff ∷ 0xff ∷ 0x7f ∷ five 0x50 1 ++ five 0x52 0) 9
+      ≡ nine-left (ran (fault out-of-range) 5 2)
+  -- MJMP 1
+  pub ends-astray : after-nine (five 0x54 1) 9 ≡ nine-left (ran (fault astray) 3 1)
 
 -- B's machine code with its table and D, from sevens: x1 is loaded, and x0 read back once it is stored.
-abbrev pub PairedOfB : Type 0
-PairedOfB = run-paired B·machine B·table (sevens 64) 2 3 ∷ run-paired B·machine B·table (sevens 64) 2 4 ∷ []
-    ≡ (gives (ran spent 3 2), sevens 64) ∷ (gives (ran done 4 2), pos 12 ∷ sevens 63) ∷ []
+pub record PairedOfB : Type 0 where
+  pub under-3 : run-paired B·machine B·table (sevens 64) 2 3 ≡ (gives (ran spent 3 2), sevens 64)
+  pub under-4 : run-paired B·machine B·table (sevens 64) 2 4 ≡ (gives (ran done 4 2), pos 12 ∷ sevens 63)
 
 -- Where it declines, of code, table, store and D under budget 9: number and place, and the store as it was.
 pub record PairedDeclines : Type 0 where
