@@ -4,6 +4,7 @@ pub mod Segment
 pub mod Entries
 pub mod Naming
 pub mod Counting
+pub mod Passing
 pub mod Mentions
 pub mod Tables
 pub mod Pairs

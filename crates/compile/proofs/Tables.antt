@@ -24,6 +24,7 @@ use Rattle.compile.proofs.Entries.{address-most, address-none, length-e
 use Rattle.compile.proofs.Counting.{one-more, none-pass, pass-or-not}
 use Rattle.compile.proofs.Mentions.{names-command}
 use Rattle.compile.proofs.Naming.{AllPlain, plain-command, plain-named}
+use Rattle.compile.proofs.Passing.{once-all}
 
 -- ---- Variables below 64, none twice
 
@@ -113,14 +114,6 @@ unfolding how-many
 times-table xs a k =
     omega (arith, times-entries xs a 0 k, ap (how-many (λ v. eqb (addr-of xs v) a)) (zero-add k))
 
--- Where each of the k numbers from a on stands in a table once, the test says so.
-each : (t : List ℕ) (a k : ℕ) → ((i : ℕ) → a ≤ i → i < a + k → times i t ≡ 1) → once-each t a k ≡ true
-unfolding once-each
-each t a zero h = refl
-each t a (suc k) h =
-    simp (eq-eqb (times a t) 1 (h a (omega arith) (omega arith)))
-    (each t (suc a) k (λ i l m. h i (omega arith) (omega arith)))
-
 module _ (xs : List ℕ) (h : Sound xs) where
   abbrev t : List ℕ
   t = entries xs 0 64
@@ -136,7 +129,7 @@ module _ (xs : List ℕ) (h : Sound xs) where
   table-sound : is-table t ≡ true
   table-sound =
       ap (once-each t 1) named-sound
-      ∙ each t 1 (length xs) (λ a l m. times-table xs a 64 ∙ address-once xs h a l (omega arith))
+      ∙ once-all t 1 (length xs) (λ a l m. times-table xs a 64 ∙ address-once xs h a l (omega arith))
 
 -- ---- The table of a command
 

@@ -21,11 +21,11 @@ use Rattle.record.proofs.Tested.{records-length, records-at}
 use Rattle.record_test.proofs.Testing.{tested-told, machine-told}
 use Rattle.compile.specs.Calls.{go-back-tests}
 use Rattle.compile.specs.Table.{named-in, is-table}
+use Rattle.compile.proofs.Passing.{entries-most}
 use Rattle.compile_table.specs.Tested.{tested}
 use Rattle.compile_table.specs.declared.Named.{Named}
 use Rattle.compile_table.specs.declared.Named.the-variants.{Cells, NoTable}
-use Rattle.compile_table.proofs.Counting.{table-found, none-found}
-use Rattle.compile_table.proofs.Passing.{entries-most}
+use Rattle.compile_table.proofs.Tested.{table-found, none-found}
 use Rattle.compile_translation.specs.Standing.{Stands}
 use Rattle.compile_back.proofs.Read.{records-stand}
 

@@ -1,5 +1,4 @@
-pub mod Counting
-pub mod Passing
+pub mod Tested
 pub mod Bits
 pub mod Marks
 pub mod Marking

@@ -13,9 +13,9 @@ use lib.Pow.{pow-lt, pow-mono, ones-lt}
 use borrow.Author.Tests.{ltb-true, ltb-false, lt-ltb, le-ltb, ne-eqb}
 use Rattle.base.specs.Acts.{if_then_else_}
 use Rattle.compile.specs.Table.{times, named-in, is-table}
+use Rattle.compile.proofs.Passing.{once, absent, stand-passes}
 use Rattle.compile_table.specs.Marks.{address-bit, marks, bit, lowest, WordTest}
 use Rattle.compile_table.proofs.Bits.{bit-none, bit-power, bit-or, bit-past, bit-lowest, same-bits}
-use Rattle.compile_table.proofs.Passing.{once, absent, stand-passes}
 
 -- ---- An entry's bit
 

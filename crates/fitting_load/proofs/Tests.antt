@@ -17,7 +17,7 @@ use Rattle.compile.specs.Table.{named-in, is-table}
 use Rattle.fitting.specs.Loading.{fill, loaded}
 use Rattle.fitting.specs.Calls.{table-tests, pod-tests}
 use Rattle.fitting.proofs.Calls.{names-own}
-use Rattle.compile_table.proofs.Passing.{entries-most}
+use Rattle.compile.proofs.Passing.{entries-most}
 use Rattle.base.proofs.Answers.{gives-one}
 use Rattle.base.proofs.Settled.{unless-passed, needed, both}
 use Rattle.fitting_load.specs.Fits.{Fits}

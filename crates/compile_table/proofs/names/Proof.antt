@@ -10,7 +10,7 @@ use Rattle.compile.specs.Table.{named-in, is-table}
 use Rattle.compile_table.specs.Marks.{marks, lowest}
 use Rattle.compile_table.specs.Tested.{tested}
 use Rattle.compile_table.specs.declared.Named.the-variants.{Cells, NoTable}
-use Rattle.compile_table.proofs.Counting.{found-table, found-none}
+use Rattle.compile_table.proofs.Tested.{found-table, found-none}
 use Rattle.compile_table.proofs.Marks.{word-test}
 use Rattle.compile_table.proofs.names.Statement.{statement}
 use Rattle.compile_table.proofs.names.Tie as tie

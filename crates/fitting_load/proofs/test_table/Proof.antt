@@ -1,7 +1,7 @@
 -- `test_table` makes the tests of a table and a store in their order: each return is one of the laws of `Tests`.
 use mathlib.Core.Path.{sym, _∙_}
 use borrow.Author.Needs.{needs}
-use Rattle.compile_table.proofs.Counting.{table-found, none-found}
+use Rattle.compile_table.proofs.Tested.{table-found, none-found}
 use Rattle.fitting_load.proofs.Tests.{no-bytes, no-cells, no-table, named}
 use Rattle.fitting_load.proofs.test_table.Statement.{statement}
 use Rattle.fitting_load.proofs.test_table.Tie as tie

@@ -13,9 +13,18 @@ use lib.Dec.{eqb, ltb}
 use lib.ListN.{length, getD, List·getD-eq-default}
 use borrow.Author.Tests.{eq-eqb, eqb-true, eqb-false, ltb-true, ltb-false, le-ltb}
 use Rattle.base.specs.Acts.{if_then_else_}
 use Rattle.compile.specs.Table.{times, named-in, once-each, is-table}
 use Rattle.compile.proofs.Entries.{Distinct}
-use Rattle.compile_table.proofs.Counting.{times-most}
+
+-- As often as there are entries, at most.
+pub times-most : (a : ℕ) (t : List ℕ) → times a t ≤ length t
+unfolding times
+times-most a [] = omega arith
+times-most a (x ∷ t) = by (eqb x a) (times-most a t)
+  where
+    by : (b : Bool) → times a t ≤ length t → (if b then suc (times a t) else times a t) ≤ suc (length t)
+    by true h = omega arith
+    by false h = omega arith
 
 -- Each of the k numbers from a on stands in a table once, where the test says so.
 once-at : (t : List ℕ) (a k i : ℕ) → once-each t a k ≡ true → a ≤ i → i < a + k → times i t ≡ 1
@@ -30,7 +39,7 @@ once-at t a (suc k) i e h l = by (eqb (times a t) 1) refl e (λ g m. once-at t (
     by false f g r = let z : _≡_ {A = ℕ} 0 1 = cc in absurd (omega arith)
 
 -- and the other way.
-once-all : (t : List ℕ) (a k : ℕ) → ((i : ℕ) → a ≤ i → i < a + k → times i t ≡ 1) → once-each t a k ≡ true
+pub once-all : (t : List ℕ) (a k : ℕ) → ((i : ℕ) → a ≤ i → i < a + k → times i t ≡ 1) → once-each t a k ≡ true
 unfolding once-each
 once-all t a zero h = refl
 once-all t a (suc k) h =
