@@ -16,6 +16,20 @@ use Rattle.record.specs.Records.{Record, AssemblyCode, named}
 use Rattle.record.specs.declared.Variable.{Variable}
 use Rattle.compile.specs.Table.{member, once, mentions, vars, addr-of, entries, table}
 
+-- ---- Members
+
+pub member-first : (x : ℕ) (xs : List ℕ) → member x (x ∷ xs) ≡ true
+unfolding member
+member-first x xs = simp (eq-eqb x x refl)
+
+pub member-later : (x : ℕ) (xs : List ℕ) (a : ℕ) → member a xs ≡ true → member a (x ∷ xs) ≡ true
+unfolding member
+member-later x xs a m = by (eqb x a)
+  where
+    by : (b : Bool) → (if b then true else member a xs) ≡ true
+    by true = refl
+    by false = m
+
 -- ---- A variable's address
 
 -- An address is at most the number of variables.
@@ -52,6 +66,10 @@ address-none (x ∷ xs) v = by (eqb x v) (address-none xs v)
         → eqb (if b then suc (length xs) else addr-of xs v) 0 ≡ not (if b then true else member v xs)
     by true h = eqb·suc-zero (length xs)
     by false h = h
+
+pub member-address : (xs : List ℕ) (v : ℕ) → member v xs ≡ true → 0 < addr-of xs v
+member-address xs v m =
+    let a = addr-of xs v in omega (arith, eqb-false a 0 (address-none xs v ∙ ap not m))
 
 -- ---- The table
 
@@ -156,6 +174,4 @@ module _ {Name : Type 0} (number : Name → ℕ) where
 -- A variable that a record names has an address.
 pub named-address : (P : AssemblyCode) (p : ℕ) (v : Variable) (r : Record Variable) → getElem? P p ≡ some r
     → named r ≡ some v → 0 < addr-of (vars P) (v .0)
-named-address P p v r e f =
-    let a = addr-of (vars P) (v .0) in
-    omega (arith, eqb-false a 0 (address-none (vars P) (v .0) ∙ ap not (named-member (λ v. v .0) P p v r e f)))
+named-address P p v r e f = member-address (vars P) (v .0) (named-member (λ v. v .0) P p v r e f)

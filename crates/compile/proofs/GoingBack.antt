@@ -29,7 +29,7 @@ use Rattle.compile.proofs.Naming.{placed}
 use Rattle.compile.proofs.Tables.{tables, named-variables}
 
 -- The variable of a variable's entry is that variable.
-variable-back : (t : List ℕ) (u v : ℕ) → Distinct t → 0 < getD t v 0 → variable-at t u (getD t v 0) ≡ u + v
+pub variable-back : (t : List ℕ) (u v : ℕ) → Distinct t → 0 < getD t v 0 → variable-at t u (getD t v 0) ≡ u + v
 unfolding variable-at
 variable-back [] u v d l = absurd (omega arith)
 variable-back (x ∷ t) u zero d l = simp (eq-eqb x x refl, add-zero)
@@ -50,7 +50,7 @@ rename-back f g (JMPLESS i) h = refl
 rename-back f g (JMPGE i) h = refl
 
 -- and so are records.
-map-back : {X Y : Type 0} (f : X → Y) (g : Y → X) (P : List (Record X))
+pub map-back : {X Y : Type 0} (f : X → Y) (g : Y → X) (P : List (Record X))
     → ((p : ℕ) (v : X) (r : Record X) → getElem? P p ≡ some r → named r ≡ some v → g (f v) ≡ v)
     → map (rename g) (map (rename f) P) ≡ P
 map-back f g [] h = refl

@@ -2,28 +2,30 @@
 -- variable's place from the end among those that were named, and renaming by what keeps names apart keeps the order of first
 -- sights.
 use mathlib.Core.Path.{_≡_, refl, sym, _∙_, ap, ap₂, subst}
-use Prim.Native.Nat.{ℕ, suc}
+use Prim.Native.Nat.{ℕ, suc, _≤_, _<_}
 use native.Mathlib.Omega.{arith}
-use mathlib.Core.Bool.{Bool, true, false}
+use mathlib.Core.Bool.{Bool, true, false, or-true}
 use mathlib.Core.List.{List, [], _∷_, map}
 use mathlib.Core.Option.{Option, none, some}
 use lib.Dec.{eqb}
-use lib.ListN.{length, getElem?, length-map}
+use lib.ListN.{length, length-map}
 use borrow.Author.Tests.{eqb-true, eqb-false, eq-eqb, ne-eqb}
 use Rattle.base.specs.Acts.{if_then_else_}
+use Rattle.base.proofs.Settled.{both}
 use Rattle.text.specs.Sizes.{cells}
 use Rattle.record.specs.Records.{Record, LOADI, LOAD, ADD, STORE, JMP, JMPLESS, JMPGE, AssemblyCode, named, rename, address}
 use Rattle.record.specs.declared.Variable.{Variable}
 use Rattle.compile.specs.Claims.{Pairs}
 use Rattle.compile.specs.Compilation.{ccomp}
 use Rattle.compile.specs.Table.{member, mentions, vars, addr-of, to-m-prog, addresses, in-order}
-use Rattle.compile.proofs.Entries.{address-distinct, named-address, mentions-one, mentions-none}
+use Rattle.compile.proofs.Entries.{member-first, member-later, address-distinct, member-address, member-once}
+use Rattle.compile.proofs.Entries.{mentions-one, mentions-none, named-member}
 use Rattle.compile.proofs.Tables.{named-variables}
 
 -- ---- Renaming
 
 -- What a renamed record names
-pub named-renamed : {X Y : Type 0} (f : X → Y) (r : Record X) {x : X} → named r ≡ some x
+named-renamed : {X Y : Type 0} (f : X → Y) (r : Record X) {x : X} → named r ≡ some x
     → named (rename f r) ≡ some (f x)
 unfolding rename
 named-renamed f (LOADI z) e = let no : _≡_ {A = ℕ} 0 1 = cc in absurd (omega arith)
@@ -34,7 +36,7 @@ named-renamed f (JMP i) e = let no : _≡_ {A = ℕ} 0 1 = cc in absurd (omega a
 named-renamed f (JMPLESS i) e = let no : _≡_ {A = ℕ} 0 1 = cc in absurd (omega arith)
 named-renamed f (JMPGE i) e = let no : _≡_ {A = ℕ} 0 1 = cc in absurd (omega arith)
 
-pub unnamed-renamed : {X Y : Type 0} (f : X → Y) (r : Record X) → named r ≡ none → named (rename f r) ≡ none
+unnamed-renamed : {X Y : Type 0} (f : X → Y) (r : Record X) → named r ≡ none → named (rename f r) ≡ none
 unfolding rename
 unnamed-renamed f (LOADI z) e = refl
 unnamed-renamed f (LOAD y) e = let no : _≡_ {A = ℕ} 0 1 = cc in absurd (omega arith)
@@ -44,31 +46,31 @@ unnamed-renamed f (JMP i) e = refl
 unnamed-renamed f (JMPLESS i) e = refl
 unnamed-renamed f (JMPGE i) e = refl
 
--- A number that g keeps apart from all others is among numbers where it is among what g makes of them.
-pub member-map : (g : ℕ → ℕ) (v : ℕ) → ((w : ℕ) → g v ≡ g w → v ≡ w) → (xs : List ℕ)
+-- A number that g keeps apart from those of xs is among them where it is among what g makes of them.
+member-map : (g : ℕ → ℕ) (v : ℕ) (xs : List ℕ) → ((w : ℕ) → member w xs ≡ true → g v ≡ g w → v ≡ w)
     → member (g v) (map g xs) ≡ member v xs
 unfolding member
-member-map g v apart [] = refl
-member-map g v apart (x ∷ xs) = by (eqb x v) refl (member-map g v apart xs)
+member-map g v [] apart = refl
+member-map g v (x ∷ xs) apart =
+    by (eqb x v) refl (apart x (member-first x xs)) (member-map g v xs (λ w m. apart w (member-later x xs w m)))
   where
-    by : (b : Bool) → eqb x v ≡ b → member (g v) (map g xs) ≡ member v xs
+    by : (b : Bool) → eqb x v ≡ b → (g v ≡ g x → v ≡ x) → member (g v) (map g xs) ≡ member v xs
         → (if eqb (g x) (g v) then true else member (g v) (map g xs)) ≡ (if b then true else member v xs)
-    by true e m = simp (eq-eqb (g x) (g v) (ap g (eqb-true x v e)))
-    by false e m = simp (ne-eqb (g x) (g v) (λ q. eqb-false x v e (sym (apart x (sym q))))) m
+    by true e first m = simp (eq-eqb (g x) (g v) (ap g (eqb-true x v e)))
+    by false e first m = simp (ne-eqb (g x) (g v) (λ q. eqb-false x v e (sym (first (sym q))))) m
 
--- Names x become f x, and numbers u become g u, which keeps each number that is named apart from all others: then g makes of
--- what the records name what the renamed records name, in the same order.
+-- Names x become f x, and their numbers u become g u, which keeps the numbers that are named apart: then g makes of what the
+-- records name what the renamed records name, in the same order.
 module _ {X Y : Type 0} (number : X → ℕ) (number′ : Y → ℕ) (f : X → Y) (g : ℕ → ℕ)
     (same : (x : X) → number′ (f x) ≡ g (number x)) where
   abbrev pub Apart : List (Record X) → Type 0
-  Apart P = (p : ℕ) (x : X) (r : Record X) → getElem? P p ≡ some r → named r ≡ some x
-      → (w : ℕ) → g (number x) ≡ g w → number x ≡ w
+  Apart P = (u w : ℕ) → member u (mentions number P) ≡ true → member w (mentions number P) ≡ true → g u ≡ g w → u ≡ w
 
   pub mentions-renamed : (P : List (Record X)) → Apart P
       → mentions number′ (map (rename f) P) ≡ map g (mentions number P)
   unfolding mentions
   mentions-renamed [] h = refl
-  mentions-renamed (r ∷ P) h = by (named r) refl (mentions-renamed P (λ p. h (suc p)))
+  mentions-renamed (r ∷ P) h = by (named r) refl (mentions-renamed P (λ u w m k. h u w (among u m) (among w k)))
     where
       xs : List ℕ
       xs = mentions number P
@@ -76,14 +78,17 @@ module _ {X Y : Type 0} (number : X → ℕ) (number′ : Y → ℕ) (f : X → 
       ys : List ℕ
       ys = mentions number′ (map (rename f) P)
 
-      grown : (x : X) → named r ≡ some x → (b : Bool) → member (number x) xs ≡ b → ys ≡ map g xs
+      among : (w : ℕ) → member w xs ≡ true → member w (mentions number (r ∷ P)) ≡ true
+      among w m = simp (member-once, m, or-true)
+
+      grown : (x : X) → named r ≡ some x → ys ≡ map g xs
           → (if member (number′ (f x)) ys then ys else number′ (f x) ∷ ys)
-          ≡ map g (if b then xs else number x ∷ xs)
-      grown x e b m i =
+          ≡ map g (if member (number x) xs then xs else number x ∷ xs)
+      grown x e i =
           ap₂ (λ (a : ℕ) (ys : List ℕ). if member a ys then ys else a ∷ ys) (same x) i
           ∙ ap (λ (b : Bool). if b then map g xs else g (number x) ∷ map g xs)
-          (member-map g (number x) (h 0 x r refl e) xs ∙ m)
-          ∙ out b
+          (member-map g (number x) xs (λ w m. h (number x) w (named-member number (r ∷ P) 0 x r refl e) (among w m)))
+          ∙ out (member (number x) xs)
         where
           out : (b : Bool) → (if b then map g xs else g (number x) ∷ map g xs) ≡ map g (if b then xs else number x ∷ xs)
           out true = refl
@@ -95,9 +100,43 @@ module _ {X Y : Type 0} (number : X → ℕ) (number′ : Y → ℕ) (f : X → 
           mentions-none number′ (rename f r) (map (rename f) P) (unnamed-renamed f r e) ∙ i
           ∙ ap (map g) (sym (mentions-none number r P e))
       by (some x) e i =
-          mentions-one number′ (rename f r) (map (rename f) P) (named-renamed f r e)
-          ∙ grown x e (member (number x) xs) refl i
+          mentions-one number′ (rename f r) (map (rename f) P) (named-renamed f r e) ∙ grown x e i
           ∙ ap (map g) (sym (mentions-one number r P e))
+
+-- ---- Numbers in order
+
+-- Such numbers are 1 to their number, and no other.
+pub member-low : (xs : List ℕ) (a : ℕ) → in-order xs ≡ true → 0 < a → a ≤ length xs → member a xs ≡ true
+unfolding member in-order
+member-low [] a e l m = absurd (omega arith)
+member-low (x ∷ xs) a e l m =
+    let o = both (eqb x (suc (length xs))) (in-order xs) e in
+    by (eqb x a) refl (eqb-true x (suc (length xs)) (o .0)) (member-low xs a (o .1) l)
+  where
+    by : (b : Bool) → eqb x a ≡ b → x ≡ suc (length xs) → (a ≤ length xs → member a xs ≡ true)
+        → (if b then true else member a xs) ≡ true
+    by true f q i = refl
+    by false f q i = i (omega (arith, eqb-false x a f))
+
+pub member-high : (xs : List ℕ) (a : ℕ) → in-order xs ≡ true → length xs < a → member a xs ≡ false
+unfolding member in-order
+member-high [] a e l = refl
+member-high (x ∷ xs) a e l =
+    let o = both (eqb x (suc (length xs))) (in-order xs) e in
+    let q = eqb-true x (suc (length xs)) (o .0) in
+    simp (ne-eqb x a (λ f. omega arith)) (member-high xs a (o .1) (omega arith))
+
+pub member-within : (xs : List ℕ) (a : ℕ) → in-order xs ≡ true → member a xs ≡ true → (0 < a) × (a ≤ length xs)
+unfolding member in-order
+member-within [] a e m = let no : _≡_ {A = ℕ} 0 1 = cc in absurd (omega arith)
+member-within (x ∷ xs) a e m =
+    let o = both (eqb x (suc (length xs))) (in-order xs) e in
+    by (eqb x a) refl m (eqb-true x (suc (length xs)) (o .0)) (member-within xs a (o .1))
+  where
+    by : (b : Bool) → eqb x a ≡ b → (if b then true else member a xs) ≡ true → x ≡ suc (length xs)
+        → (member a xs ≡ true → (0 < a) × (a ≤ length xs)) → (0 < a) × (a ≤ suc (length xs))
+    by true f m q i = (omega (arith, eqb-true x a f), omega (arith, eqb-true x a f))
+    by false f m q i = let w = i m in (w .0, omega (arith, w .1))
 
 -- ---- Addresses of what is named
 
@@ -115,7 +154,7 @@ same-addresses v xs (z ∷ zs) m = by (eqb z v) refl m (same-addresses v xs zs)
         ap₂ _∷_ (simp (ne-eqb v z (λ q. eqb-false z v e (sym q)))) (i m)
 
 -- Variables whose addresses are in order
-abbrev Ordered : List ℕ → Type 0
+abbrev pub Ordered : List ℕ → Type 0
 Ordered xs = in-order (map (addr-of xs) xs) ≡ true
 
 ordered-once : (v : ℕ) (xs : List ℕ) (b : Bool) → member v xs ≡ b → Ordered xs → Ordered (if b then xs else v ∷ xs)
@@ -125,7 +164,7 @@ ordered-once v xs false m i =
     simp (eq-eqb v v refl, same-addresses v xs xs m, length-map xs (addr-of xs), eq-eqb (suc (length xs)) (suc (length xs)) refl) i
 
 -- The variables that records name, each at its last mention, are such.
-ordered : (P : AssemblyCode) → Ordered (vars P)
+pub ordered : (P : AssemblyCode) → Ordered (vars P)
 unfolding mentions in-order
 ordered [] = refl
 ordered (r ∷ P) = by (named r) refl (ordered P)
@@ -137,10 +176,10 @@ ordered (r ∷ P) = by (named r) refl (ordered P)
 
 -- ---- A command's machine code
 
-addresses-are : (P : AssemblyCode) → addresses (to-m-prog P) ≡ map (addr-of (vars P)) (vars P)
+pub addresses-are : (P : AssemblyCode) → addresses (to-m-prog P) ≡ map (addr-of (vars P)) (vars P)
 addresses-are P =
     mentions-renamed (λ v. v .0) (λ a. a .0) (λ v. address (addr-of (vars P) (v .0))) (addr-of (vars P)) (λ v. refl) P
-    (λ p v r e f w. address-distinct (vars P) (v .0) w (named-address P p v r e f))
+    (λ u w m k. address-distinct (vars P) u w (member-address (vars P) u m))
 
 pub pairs : Pairs
 pairs c h =

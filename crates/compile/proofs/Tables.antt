@@ -28,11 +28,11 @@ use Rattle.compile.proofs.Passing.{once-all}
 
 -- ---- Variables below 64, none twice
 
-abbrev Sound : List ℕ → Type 0
+abbrev pub Sound : List ℕ → Type 0
 Sound [] = Unit {0}
 Sound (x ∷ xs) = (x < 64) × (member x xs ≡ false) × Sound xs
 
-sound-once : (o : Option Variable) (xs : List ℕ) → ((v : Variable) → o ≡ some v → v .0 < 64) → Sound xs
+pub sound-once : (o : Option Variable) (xs : List ℕ) → ((v : Variable) → o ≡ some v → v .0 < 64) → Sound xs
     → Sound (once (λ v. v .0) o xs)
 unfolding once
 sound-once none xs h s = s
@@ -122,7 +122,7 @@ module _ (xs : List ℕ) (h : Sound xs) where
   unnamed : times 0 t ≡ how-many (λ v. not (member v xs)) 64
   unnamed = times-table xs 0 64 ∙ (λ j. how-many (λ v. address-none xs v j) 64)
 
-  named-sound : named-in t ≡ length xs
+  pub named-sound : named-in t ≡ length xs
   named-sound =
       omega (arith, unnamed, pass-or-not (λ v. member v xs) 64, members xs h, length-entries xs 0 64)
 

@@ -2,6 +2,7 @@
 -- Compilation gives as many records as reading says and names as many variables; machine code with its table goes back
 -- to the same assembly, for the definitions and for the calls; a constant's width changes no record.
 use mathlib.Core.Path.{_≡_}
+use mathlib.Core.Logic.{_↔_}
 use Prim.Native.Nat.{ℕ, _*_, _≤_}
 use mathlib.Core.Bool.{true}
 use mathlib.Core.List.{List}
@@ -12,6 +13,7 @@ use Rattle.text.specs.Reading.{read-text}
 use Rattle.text.specs.Encoding.{Bytes, Valid}
 use Rattle.text.specs.Sizes.{records, cells}
 use Rattle.text.specs.Respelling.{Respelled}
+use Rattle.record.specs.Records.{MachineCode}
 use Rattle.record.specs.Bytes.{assembly-kind, machine-kind}
 use Rattle.record.specs.Claims.{CodeFits}
 use Rattle.compile.specs.Compilation.{ccomp}
@@ -70,6 +72,16 @@ GoesBack = (text : List ℕ) → Bytes text → (c : Command) → read-text text
     → (out : List ℕ) → 5 * records c ≤ length out
     → let left = compile text lent .1 in
     go-back (take (5 * records c) (left .code)) (left .table) out ≡ (gives (records c), assemble text out .1)
+
+-- What it means that a table and machine code agree (document 02, W6): they are one another's own. The assembly that they go
+-- back to has that machine code, and that table.
+pub record OwnPair (t : List ℕ) (P : MachineCode) : Type 0 where
+  pub same-code : to-m-prog (to-assembly t P) ≡ P
+  pub same-table : table (to-assembly t P) ≡ t
+
+abbrev pub OwnPairs : Type 0
+OwnPairs = (t : List ℕ) → length t ≡ 64 → is-table t ≡ true → (P : MachineCode)
+    → (agrees P (named-in t) ≡ true) ↔ OwnPair t P
 
 -- ---- Two spellings of constants
 

@@ -11,7 +11,7 @@ use native.Mathlib.Omega.{arith}
 use lib.Dec.{eqb, leb}
 use lib.IntN.{ℤ}
 use lib.ListN.{length, getD, getElem?, drop, drop-of-length-le}
-use borrow.Author.Tests.{eqb-true, eqb-false, eq-eqb, ne-eqb, leb-true}
+use borrow.Author.Tests.{eqb-true, eq-eqb, ne-eqb, leb-true}
 use Rattle.base.specs.Acts.{if_then_else_}
 use Rattle.base.proofs.Settled.{both}
 use Rattle.word.specs.Numbers.{number-at}
@@ -23,6 +23,7 @@ use Rattle.record.proofs.Decoding.{as-add, is-load, is-store, address-at-most, 
 use Rattle.record.proofs.Tested.{records-length}
 use Rattle.compile.specs.Table.{member, mentions, addresses, in-order, agrees}
 use Rattle.compile.proofs.Entries.{none-some, mentions-one, mentions-none}
+use Rattle.compile.proofs.Pairs.{member-low, member-high}
 use Rattle.compile_table.specs.Sights.{address-at, Passed}
 
 -- ---- What a record names, by its bytes
@@ -77,29 +78,6 @@ module _ (code : List ℕ) (n i : ℕ) (few : n ≤ 64) (r : Record Address)
                 (rw (e, f) at there),
             refl,
           )
-
--- ---- Numbers in order
-
--- Such numbers are 1 to their number, and no other.
-member-low : (xs : List ℕ) (a : ℕ) → in-order xs ≡ true → 0 < a → a ≤ length xs → member a xs ≡ true
-unfolding member in-order
-member-low [] a e l m = absurd (omega arith)
-member-low (x ∷ xs) a e l m =
-    let o = both (eqb x (suc (length xs))) (in-order xs) e in
-    by (eqb x a) refl (eqb-true x (suc (length xs)) (o .0)) (member-low xs a (o .1) l)
-  where
-    by : (b : Bool) → eqb x a ≡ b → x ≡ suc (length xs) → (a ≤ length xs → member a xs ≡ true)
-        → (if b then true else member a xs) ≡ true
-    by true f q i = refl
-    by false f q i = i (omega (arith, eqb-false x a f))
-
-member-high : (xs : List ℕ) (a : ℕ) → in-order xs ≡ true → length xs < a → member a xs ≡ false
-unfolding member in-order
-member-high [] a e l = refl
-member-high (x ∷ xs) a e l =
-    let o = both (eqb x (suc (length xs))) (in-order xs) e in
-    let q = eqb-true x (suc (length xs)) (o .0) in
-    simp (ne-eqb x a (λ f. omega arith)) (member-high xs a (o .1) (omega arith))
 
 -- ---- One record more in front of Q
 
