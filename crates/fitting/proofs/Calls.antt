@@ -1,4 +1,5 @@
--- The preview of a loaded machine: what its tests say, one after the other, and what it comes to where they are passed.
+-- What the tests of a table and a store say; and the preview of a loaded machine: what its tests say, one after the other, and
+-- what it comes to where they are passed.
 use mathlib.Core.Path.{_≡_, refl, sym, _∙_, ap}
 use Prim.Native.Nat.{ℕ, _+_, _≤_}
 use native.Mathlib.Omega.{arith}
@@ -21,20 +22,37 @@ use Rattle.compile.specs.Table.{named-in, is-table}
 use Rattle.fitting.specs.Loading.{read-back}
 use Rattle.fitting.specs.Calls.{table-tests, pod-tests, read-back-call, preview-tests, preview-machine}
 
--- What a table and a store give is the table's n.
-pub names-own : (t : List ℕ) (store : Store) {n : ℕ} → table-tests t store ≡ gives n → n ≡ named-in t
+-- ---- A table and a store
+
+-- A table of 64 bytes that passes and names n variables, and 64 cells
+pub record Tabled (t : List ℕ) (store : Store) (n : ℕ) : Type 0 where
+  pub bytes : length t ≡ 64
+  pub cells : length store ≡ 64
+  pub passes : is-table t ≡ true
+  pub count : n ≡ named-in t
+
+-- Where their tests give n
+pub tabled : (t : List ℕ) (store : Store) {n : ℕ} → table-tests t store ≡ gives n → Tabled t store n
 unfolding table-tests
-names-own t store e =
+tabled t store e =
     let sized = unless-passed (eqb (length t) 64 && eqb (length store) 64) 8 0 _ e in
     let table = unless-passed (is-table t) 12 0 _ (sized .1) in
-    sym (gives-one _ _ (table .1))
+    let sizes = both (eqb (length t) 64) (eqb (length store) 64) (sized .0) in
+    record {
+      bytes = eqb-true (length t) 64 (sizes .0);
+      cells = eqb-true (length store) 64 (sizes .1);
+      passes = table .0;
+      count = sym (gives-one _ _ (table .1));
+    }
 
--- It is at most 64.
+-- It is the table's, and at most 64.
+pub names-own : (t : List ℕ) (store : Store) {n : ℕ} → table-tests t store ≡ gives n → n ≡ named-in t
+names-own t store e = tabled t store e .count
+
 pub names-few : (t : List ℕ) (store : Store) {n : ℕ} → table-tests t store ≡ gives n → n ≤ 64
-unfolding table-tests
-names-few t store e =
-    let sized = unless-passed (eqb (length t) 64 && eqb (length store) 64) 8 0 _ e in
-    omega (arith, eqb-true (length t) 64 (both _ _ (sized .0) .0), names-own t store e)
+names-few t store e = let x = tabled t store e in omega (arith, x .bytes, x .count)
+
+-- ---- The preview of a loaded machine
 
 module _ (code : List ℕ) (memory : List ℤ) (D : ℕ) (t : List ℕ) (store : Store) where
   abbrev n : ℕ

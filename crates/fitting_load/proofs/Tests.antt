@@ -1,38 +1,29 @@
 -- The tests of both calls: the answer to which each of the code's tests leads, and what holds where the answer is n.
 use mathlib.Core.Path.{_≡_, sym, _∙_, ap}
-use mathlib.Core.Bool.{true, false, _&&_}
+use mathlib.Core.Bool.{true, false}
 use mathlib.Core.List.{List}
 use Prim.Native.Nat.{ℕ, _+_, _≤_, _<_}
 use native.Mathlib.Omega.{arith}
-use lib.Dec.{eqb, leb}
+use lib.Dec.{leb}
 use lib.IntN.{ℤ, pos}
 use lib.ListN.{length, replicate}
 use borrow.Author.Tests.{eqb-true, leb-true, le-leb, lt-leb, eq-eqb, ne-eqb}
-use Rattle.base.specs.Answers.{Answer, gives, refused, unless_refuse_at_else_, and-then}
-use Rattle.base.specs.Code.{count-answer}
-use Rattle.base.specs.declared.Count.{Count}
-use Rattle.source.specs.Rules.{Store}
-use Rattle.machine.specs.Calls.{memory-fits}
-use Rattle.compile.specs.Table.{named-in, is-table}
-use Rattle.fitting.specs.Loading.{fill, loaded}
-use Rattle.fitting.specs.Calls.{table-tests, pod-tests}
-use Rattle.fitting.proofs.Calls.{names-own}
-use Rattle.compile.proofs.Passing.{entries-most}
+use Rattle.base.specs.Answers.{gives, refused, unless_refuse_at_else_, and-then}
 use Rattle.base.proofs.Answers.{gives-one}
 use Rattle.base.proofs.Settled.{unless-passed, needed, both}
+use Rattle.source.specs.Rules.{Store}
+use Rattle.machine.specs.Calls.{memory-fits}
+use Rattle.compile.specs.Table.{is-table}
+use Rattle.compile.proofs.Passing.{entries-most}
+use Rattle.fitting.specs.Loading.{fill, loaded}
+use Rattle.fitting.specs.Calls.{table-tests, pod-tests}
+use Rattle.fitting.proofs.Calls.{Tabled, tabled}
 use Rattle.fitting_load.specs.Fits.{Fits}
 
 -- ---- A table and a store
 
--- A table of 64 bytes that passes and names n variables, and 64 cells
-pub record Tabled (t : List ℕ) (store : Store) (n : ℕ) : Type 0 where
-  pub bytes : length t ≡ 64
-  pub cells : length store ≡ 64
-  pub passes : is-table t ≡ true
-  pub count : n ≡ named-in t
-
 module _ (t : List ℕ) (store : Store) where
-  -- the answer of each of the code's tests,
+  -- the answer of each of the code's tests
   pub no-bytes : (length t ≡ 64 → ⊥) → refused 8 0 ≡ table-tests t store
   unfolding table-tests
   no-bytes h = simp (ne-eqb (length t) 64 h)
@@ -50,20 +41,6 @@ module _ (t : List ℕ) (store : Store) where
   named x =
       ap gives (x .count)
       ∙ sym (simp (eq-eqb (length t) 64 (x .bytes), eq-eqb (length store) 64 (x .cells), x .passes))
-
-  -- and what holds where it is n
-  pub tabled : {n : ℕ} → table-tests t store ≡ gives n → Tabled t store n
-  unfolding table-tests
-  tabled e =
-      let sized = unless-passed (eqb (length t) 64 && eqb (length store) 64) 8 0 _ e in
-      let table = unless-passed (is-table t) 12 0 _ (sized .1) in
-      let sizes = both (eqb (length t) 64) (eqb (length store) 64) (sized .0) in
-      record {
-        bytes = eqb-true (length t) 64 (sizes .0);
-        cells = eqb-true (length store) 64 (sizes .1);
-        passes = table .0;
-        count = names-own t store e;
-      }
 
 -- ---- And a memory
 
@@ -92,10 +69,6 @@ module _ (t : List ℕ) (store : Store) (D : ℕ) (memory : List ℤ) where
     accepts h k = sym (left ∙ simp (le-leb D 64 h, few, eq-eqb (length memory) (D + 1 + n) k))
 
 -- ---- What holds where the answer is n
-
--- What `test` answered is what the tests answer.
-pub answers : {tests : Answer ℕ} {x y : Count} → count-answer x ≡ tests → x ≡ y → tests ≡ count-answer y
-answers tested e = sym tested ∙ ap count-answer e
 
 pub record Passed (t : List ℕ) (store : Store) (D : ℕ) (memory : List ℤ) (n : ℕ) : Type 0 where
   pub tables : Tabled t store n

@@ -14,7 +14,7 @@ use Rattle.machine.proofs.Calls.{number-given}
 use Rattle.compile.specs.Table.{named-in}
 use Rattle.fitting.specs.Loading.{fill, loaded, read-back}
 use Rattle.fitting.specs.Paired.{paired-tests, run-paired}
-use Rattle.fitting.proofs.Calls.{names-few}
+use Rattle.fitting.proofs.Calls.{tabled, names-few}
 use Rattle.fitting.proofs.Paired.{PairFound, pair-found, finds-records, pair-runs-by}
 use Rattle.fitting_load.specs.Fits.{Fits}
 use Rattle.fitting_load.proofs.Tests as Load
@@ -65,7 +65,7 @@ module _ (code t : List ℕ) (store : Store) (z : Sizes) (tested : paired-tests 
     long = ap length zeros ∙ length-replicate (D + 1 + z .cells) (pos 0) ∙ ap (λ k. D + 1 + k) own-cells
 
     passed : Load.Passed t store D memory (named-in t)
-    passed = record { tables = Load.tabled t store (found .names); deep = found .deep; room = long }
+    passed = record { tables = tabled t store (found .names); deep = found .deep; room = long }
 
     -- loading and reading back have room, in any memory as long
     pub fits : {cells : List ℤ} → length cells ≡ length memory → Fits t store D cells

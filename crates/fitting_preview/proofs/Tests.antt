@@ -16,9 +16,9 @@ use Rattle.machine.specs.Calls.{machine-tests}
 use Rattle.machine.proofs.Calls.{number-given, machine-passed}
 use Rattle.compile.specs.Table.{named-in}
 use Rattle.fitting.specs.Calls.{table-tests, preview-tests}
-use Rattle.fitting.proofs.Calls.{PreviewPassed, preview-passed, pod-passed}
+use Rattle.fitting.proofs.Calls.{tabled, PreviewPassed, preview-passed, pod-passed}
 use Rattle.fitting_load.specs.Fits.{Fits}
-use Rattle.fitting_load.proofs.Tests.{tabled, passed, fits}
+use Rattle.fitting_load.proofs.Tests.{passed, fits}
 
 module _ (code : List ℕ) (memory : List ℤ) (D : ℕ) (t : List ℕ) (store : Store) where
   -- the number of records that the tests give

@@ -1,8 +1,9 @@
 -- `load` is the call's definition: its tests, then zeros, then each named variable at its address.
 use borrow.Author.Needs.{needs}
+use Rattle.base.proofs.Answers.{answers}
 use Rattle.base.proofs.Settled.{settled, declined}
 use Rattle.fitting.specs.Calls as Calls
-use Rattle.fitting_load.proofs.Tests.{answers, passed, fits, loads}
+use Rattle.fitting_load.proofs.Tests.{passed, fits, loads}
 use Rattle.fitting_load.proofs.load.Statement.{statement}
 use Rattle.fitting_load.proofs.load.Tie as tie
 

@@ -1,9 +1,10 @@
 -- `read_back` is the call's definition: its tests, then each named variable from its address.
 use mathlib.Core.Path.{refl}
 use borrow.Author.Needs.{needs}
+use Rattle.base.proofs.Answers.{answers}
 use Rattle.base.proofs.Settled.{settled, declined}
 use Rattle.fitting.specs.Calls.{read-back-call}
-use Rattle.fitting_load.proofs.Tests.{answers, passed, fits}
+use Rattle.fitting_load.proofs.Tests.{passed, fits}
 use Rattle.fitting_load.proofs.read_back.Statement.{statement}
 use Rattle.fitting_load.proofs.read_back.Tie as tie
 

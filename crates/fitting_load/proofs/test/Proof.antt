@@ -2,7 +2,9 @@
 use mathlib.Core.Path.{_∙_}
 use native.Mathlib.Omega.{arith}
 use borrow.Author.Needs.{needs}
-use Rattle.fitting_load.proofs.Tests.{answers, tabled, no-names, too-deep, no-room, accepts}
+use Rattle.base.proofs.Answers.{answers}
+use Rattle.fitting.proofs.Calls.{tabled}
+use Rattle.fitting_load.proofs.Tests.{no-names, too-deep, no-room, accepts}
 use Rattle.fitting_load.proofs.test.Statement.{statement}
 use Rattle.fitting_load.proofs.test.Tie as tie
 

@@ -5,10 +5,10 @@ use native.Mathlib.Omega.{arith}
 use lib.IntN.{pos}
 use lib.ListN.{length, take, replicate, length-replicate, length-take}
 use borrow.Author.Needs.{needs}
+use Rattle.base.proofs.Answers.{answers}
 use Rattle.base.proofs.Settled.{preview-declined}
 use Rattle.machine.proofs.Calls.{refused-by}
 use Rattle.fitting.specs.Calls.{preview-machine}
-use Rattle.fitting_load.proofs.Tests.{answers}
 use Rattle.fitting_preview.proofs.Tests.{tests, tested, store-cells, memory-cells}
 use Rattle.fitting_preview.proofs.preview_machine.Statement.{statement}
 use Rattle.fitting_preview.proofs.preview_machine.Tie as tie
