@@ -1,6 +1,7 @@
 -- What is claimed of compiled code. The proof of the same spelling stands in proofs/.
 -- Compilation gives as many records as reading says and names as many variables; machine code with its table goes back
--- to the same assembly, for the definitions and for the calls; a constant's width changes no record.
+-- to the same assembly, for the definitions and for the calls; the two agree, and what that means; a constant's width changes
+-- no record.
 use mathlib.Core.Path.{_≡_}
 use mathlib.Core.Logic.{_↔_}
 use Prim.Native.Nat.{ℕ, _*_, _≤_}

@@ -1,4 +1,5 @@
--- Addresses, the table, machine code and the way back (document 01, "Records"; document 001, vars, addr-of, to-m-prog).
+-- Addresses, the table, machine code and the way back (document 01, "Records"; document 001, vars, addr-of, to-m-prog); and
+-- whether a table's n and machine code agree (document 02, W6).
 use Prim.Native.Nat.{ℕ, zero, suc, _-_}
 use mathlib.Core.Bool.{Bool, true, false, _&&_}
 use mathlib.Core.List.{List, [], _∷_, map}

@@ -1,6 +1,6 @@
--- `run_paired` (Paired: AnyMemory, PairingsPass, PairedFitted): what its tests say, one after the other; where they are passed,
--- it is the row of three calls (Rows); what `compile` wrote passes them, and is then run as the four calls run it (Rows,
--- Memories).
+-- `run_paired` (Paired: AnyMemory, PairedRefusals, PairingsPass, PairedFitted): what its tests say, one after the other; where
+-- they are passed, it is the row of three calls (Rows); what `compile` wrote passes them, and is then run as the four calls
+-- run it (Rows, Memories).
 use mathlib.Core.Path.{_≡_, refl, sym, _∙_, ap, ap₂}
 use Prim.Native.Nat.{ℕ, _+_, _*_, _%_, _≤_}
 use native.Mathlib.Decide.{ℕ-discrete}
@@ -17,7 +17,7 @@ use Rattle.base.specs.Ends.{Result, Ran, report}
 use Rattle.base.specs.Rows.{answered}
 use Rattle.base.proofs.Answers.{gives-one}
 use Rattle.base.proofs.Rows.{ends-there, goes-on}
-use Rattle.base.proofs.Settled.{unless-passed, needed, both}
+use Rattle.base.proofs.Settled.{not-both, unless-passed, needed, both}
 use Rattle.word.specs.Sums.{sum32}
 use Rattle.text.specs.Syntax.{Command}
 use Rattle.text.specs.Encoding.{Within}
@@ -44,7 +44,8 @@ use Rattle.compile.proofs.Tables.{tables, named-variables}
 use Rattle.fitting.specs.Loading.{loaded, read-back}
 use Rattle.fitting.specs.Calls.{table-tests}
 use Rattle.fitting.specs.Rows.{Lent, buffers, load-run-read}
-use Rattle.fitting.specs.Paired.{paired-tests, run-paired, AnyMemory, ByCompiler, PairingsPass, PairedFitted}
+use Rattle.fitting.specs.Paired.{paired-tests, run-paired, AnyMemory, PairedRefusals, ByCompiler, PairingsPass}
+use Rattle.fitting.specs.Paired.{PairedFitted}
 use Rattle.fitting.proofs.Calls.{names-own, names-few}
 use Rattle.fitting.proofs.Loading.{length-loaded}
 use Rattle.fitting.proofs.Memories.{translated}
@@ -169,6 +170,24 @@ any-memory code t store D z e budget memory long =
       in-a-row = sym (three code t store D budget f memory (long ∙ ap (λ k. D + 1 + k) cells));
       in-one-call = ap (λ D. run-paired code t store D budget) deep ∙ sym (pair-runs code t store D budget f);
     }
+
+-- What the call gives and leaves, by what its tests answer
+refusals : (code t : List ℕ) (store s : Store) (D budget number place : ℕ) (x : Answer Sizes)
+    → paired-tests code t store D ≡ x → run-paired code t store D budget ≡ (refused number place, s)
+    → (x ≡ refused number place) × (s ≡ store)
+refusals code t store s D budget number place (gives z) e f =
+    let runs = pair-runs code t store D budget (pair-found code t store D e) in
+    not-both (sym (ap (λ (r : Answer Ran × Store). r .0) (runs ∙ f)))
+refusals code t store s D budget number place (refused k p) e f =
+    let both-are = pair-declines code t store D budget e ∙ f in
+    let answers : _≡_ {A = Answer Ran} (refused k p) (refused number place) = ap (λ (r : Answer Ran × Store). r .0) both-are in
+    (cc, sym (ap (λ (r : Answer Ran × Store). r .1) both-are))
+
+pub paired-refusals : PairedRefusals
+paired-refusals code t store s D budget number place = (
+  refusals code t store s D budget number place (paired-tests code t store D) refl,
+  λ (e, same). sym (pair-declines code t store D budget e) ∙ (λ i. (refused number place, sym same i)),
+)
 
 -- A command's machine code, table and D
 module _ (c : Command) (w : Within c) where

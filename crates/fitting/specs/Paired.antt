@@ -1,13 +1,14 @@
 -- The call `run_paired` (document 02, W6): code and a table tested against each other, and then loading, running and reading
 -- back in one call. What is claimed of it stands below; the proof of the same spelling stands in proofs/.
 use mathlib.Core.Path.{_≡_}
+use mathlib.Core.Logic.{_↔_}
 use Prim.Native.Nat.{ℕ, _+_, _*_}
 use mathlib.Core.List.{List}
 use lib.Dec.{leb}
 use lib.IntN.{ℤ, pos}
 use lib.ListN.{length, take, replicate}
 use Rattle.base.specs.Acts.{_>>=_}
-use Rattle.base.specs.Answers.{Answer, gives, unless_refuse_at_else_, and-then}
+use Rattle.base.specs.Answers.{Answer, gives, refused, unless_refuse_at_else_, and-then}
 use Rattle.base.specs.Ends.{Ran}
 use Rattle.base.specs.Rows.{Row, call, answered}
 use Rattle.text.specs.Encoding.{Bytes}
@@ -23,16 +24,21 @@ use Rattle.fitting.specs.Rows.{Lent, buffers, load-run-read}
 
 -- ---- The call
 
--- Refusals: 9; those of a table and a store, 8, 12; 10; 14, "after 12 and 10 and before 11, when they disagree"; 11, where D
--- is above 64. The record count, D, and the table's n
+-- Whole records with the n of their table: 10; 14, "after 12 and 10 and before 11, when they disagree"; 11, where D is above 64.
+-- The record count, D and n
+abbrev pub pair-tests : List ℕ → ℕ → ℕ → Answer Sizes
+pair-tests code n D =
+    and-then (records-of (machine-kind n) code) (λ P.
+    unless agrees P n refuse 14 at 0 else
+    unless leb D 64 refuse 11 at 0 else
+    gives (sized (length P) D n))
+
+-- Refusals: 9; those of a table and a store, 8, 12; those of the pair, 10, 14, 11
 unfoldable pub paired-tests : List ℕ → List ℕ → Store → ℕ → Answer Sizes
 paired-tests code t store D =
     unless whole-records code refuse 9 at 0 else
     and-then (table-tests t store) (λ n.
-    and-then (records-of (machine-kind n) code) (λ P.
-    unless agrees P n refuse 14 at 0 else
-    unless leb D 64 refuse 11 at 0 else
-    gives (sized (length P) D n)))
+    pair-tests code n D)
 
 abbrev pub testing : ℕ → Row Lent Sizes
 testing D l = call (paired-tests (l .code) (l .table) (l .store) D) l
@@ -59,6 +65,12 @@ abbrev pub AnyMemory : Type 0
 AnyMemory = (code t : List ℕ) (store : Store) (D : ℕ) (z : Sizes) → paired-tests code t store D ≡ gives z
     → (budget : ℕ) (memory : List ℤ) → length memory ≡ D + 1 + z .cells
     → OnAnyMemory code t store z budget memory
+
+-- It declines exactly where its tests do, with their number and place, and then leaves the store as it was.
+abbrev pub PairedRefusals : Type 0
+PairedRefusals = (code t : List ℕ) (store s : Store) (D budget number place : ℕ)
+    → (run-paired code t store D budget ≡ (refused number place, s))
+    ↔ ((paired-tests code t store D ≡ refused number place) × (s ≡ store))
 
 -- Code, a table and D "by our compiler": what `compile` wrote of a text, and the D that it gave
 pub record ByCompiler (text code t : List ℕ) (D : ℕ) : Type 0 where

@@ -21,8 +21,7 @@ use Rattle.machine.proofs.Calls.{number-given, counted, refused-by, code-found}
 use Rattle.compile.specs.Table.{agrees}
 use Rattle.compile_table.specs.Sights.{Passed}
 use Rattle.fitting.specs.Calls.{table-tests}
-use Rattle.fitting.specs.Paired.{paired-tests}
-use Rattle.fitting_paired.specs.Tests.{pair-tests}
+use Rattle.fitting.specs.Paired.{pair-tests, paired-tests}
 
 -- ---- With the table's n: 10, 14, 11
 

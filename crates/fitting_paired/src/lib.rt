@@ -16,8 +16,7 @@ ghost use Rattle.base.specs.Code.{run-answer};
 ghost use Rattle.text.specs.Code.{sizes-answer};
 ghost use Rattle.source.specs.Calls.{run-source};
 ghost use Rattle.record.specs.Bytes.{whole-records};
-ghost use Rattle.fitting.specs.Paired.{paired-tests, run-paired, ByCompiler};
-ghost use Rattle.fitting_paired.specs.Tests.{pair-tests};
+ghost use Rattle.fitting.specs.Paired.{pair-tests, paired-tests, run-paired, ByCompiler};
 
 // The tests of whole records with the table's n, in their order: 10, 14, 11. Gives the record count, D and n.
 fn test_pair(code: &[u8], n: usize, depth: u64) -> Reading

@@ -3,7 +3,6 @@ use mathlib.Core.Path.{_≡_, refl, sym, _∙_, ap}
 use Prim.Native.Nat.{ℕ, _+_, _*_, _≤_}
 use native.Mathlib.Omega.{arith}
 use mathlib.Core.List.{List, _++_}
-use lib.IntN.{ℤ}
 use lib.ListN.{length, take}
 use Rattle.base.specs.Answers.{Answer, gives, refused}
 use Rattle.base.specs.Ends.{Ran}

@@ -1,11 +1,9 @@
 -- The text is accepted, so assembling and compiling write its codes and its table, and the run of the pair is its run (Shown).
-use mathlib.Core.Path.{_≡_, refl, sym, ap}
+use mathlib.Core.Path.{refl, ap}
 use Prim.Native.Nat.{_*_, _≤_}
 use native.Mathlib.Omega.{arith}
 use borrow.Author.Needs.{needs}
-use mathlib.Core.List.{List}
-use Prim.Native.Nat.{ℕ}
-use lib.ListN.{length, take, length-take}
+use lib.ListN.{length-take}
 use Rattle.base.specs.Code.{run-answer}
 use Rattle.text.specs.Encoding.{Bytes}
 use Rattle.source.specs.Cases.{zeros}
