@@ -12,7 +12,8 @@ use lib.Dec.{eqb, eqb·suc-zero}
 use lib.ListN.{length, getD, getElem?, List·getD-eq-default}
 use borrow.Author.Tests.{eqb-true, eqb-false, eq-eqb}
 use Rattle.base.specs.Acts.{if_then_else_}
-use Rattle.record.specs.Records.{Record, AssemblyCode, named}
+use Rattle.record.specs.Records.{Record, LOADI, LOAD, ADD, STORE, JMP, JMPLESS, JMPGE, AssemblyCode, named, rename}
+use Rattle.record.specs.Bytes.{option-map}
 use Rattle.record.specs.declared.Variable.{Variable}
 use Rattle.compile.specs.Table.{member, once, mentions, vars, addr-of, entries, table}
 
@@ -117,6 +118,17 @@ table-distinct P v w l e =
     inside u h = elim (decLt u 64) [ yes l ↦ l | no l ↦ absurd (omega (arith, table-past P u (omega arith))) ]
 
 -- ---- What records name
+
+-- A renamed record names what became of the name.
+pub named-rename : {X Y : Type 0} (f : X → Y) (r : Record X) → named (rename f r) ≡ option-map f (named r)
+unfolding rename option-map
+named-rename f (LOADI z) = refl
+named-rename f (LOAD x) = refl
+named-rename f ADD = refl
+named-rename f (STORE x) = refl
+named-rename f (JMP i) = refl
+named-rename f (JMPLESS i) = refl
+named-rename f (JMPGE i) = refl
 
 -- What is none is not some.
 pub none-some : {A B : Type 0} (a : A) → none ≡ some a → B

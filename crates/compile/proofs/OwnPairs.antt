@@ -8,21 +8,21 @@ use native.Mathlib.Decide.{decLt}
 use native.Mathlib.Omega.{arith}
 use mathlib.Core.Bool.{Bool, true, false, not}
 use mathlib.Core.List.{List, [], _∷_, map}
-use mathlib.Core.Option.{some}
+use mathlib.Core.Option.{Option, none, some, Option·some-injective}
 use lib.Dec.{eqb}
 use lib.ListN.{length, getD, length-map}
 use lib.Seq.{ext-getD}
 use borrow.Author.Tests.{eqb-true, eqb-false, eq-eqb, ne-eqb}
 use Rattle.base.specs.Acts.{if_then_else_}
 use Rattle.base.proofs.Settled.{both}
-use Rattle.record.specs.Records.{Record, LOADI, LOAD, ADD, STORE, JMP, JMPLESS, JMPGE, AssemblyCode, MachineCode, named}
-use Rattle.record.specs.Records.{rename, variable, address}
+use Rattle.record.specs.Records.{Record, AssemblyCode, MachineCode, named, rename, variable, address}
+use Rattle.record.specs.Bytes.{option-map}
 use Rattle.record.specs.declared.Variable.{Variable}
 use Rattle.compile.specs.Claims.{OwnPair, OwnPairs}
 use Rattle.compile.specs.Table.{member, mentions, vars, addr-of, to-m-prog, table, times, named-in, is-table}
 use Rattle.compile.specs.Table.{addresses, in-order, agrees, variable-at, to-assembly}
 use Rattle.compile.proofs.Entries.{none-some, member-first, member-later, address-none, length-entries}
-use Rattle.compile.proofs.Entries.{table-at, named-member}
+use Rattle.compile.proofs.Entries.{table-at, named-rename, named-member}
 use Rattle.compile.proofs.Tables.{Sound, sound-once, named-sound}
 use Rattle.compile.proofs.Passing.{once, entries-most, entries-distinct}
 use Rattle.compile.proofs.Pairs.{mentions-renamed, member-low, member-within, addresses-are, ordered}
@@ -90,16 +90,14 @@ variable-below (x ∷ t) u a h = by (eqb x a) (variable-below t (suc u) a (omega
     by true i = omega arith
     by false i = omega arith
 
--- What a renamed record names
+-- What a renamed record names is made of a name.
 named-from : {X Y : Type 0} (f : X → Y) (r : Record X) {y : Y} → named (rename f r) ≡ some y → (x : X) × (f x ≡ y)
-unfolding rename
-named-from f (LOADI z) {y} e = none-some y e
-named-from f (LOAD x) e = (x, cc)
-named-from f ADD {y} e = none-some y e
-named-from f (STORE x) e = (x, cc)
-named-from f (JMP i) {y} e = none-some y e
-named-from f (JMPLESS i) {y} e = none-some y e
-named-from f (JMPGE i) {y} e = none-some y e
+unfolding option-map
+named-from f r {y} e = by (named r) (sym (named-rename f r) ∙ e)
+  where
+    by : (o : Option _) → option-map f o ≡ some y → (x : _) × (f x ≡ y)
+    by none e = none-some y e
+    by (some x) e = (x, Option·some-injective (f x) y e)
 
 module _ (t : List ℕ) (long : length t ≡ 64) (passes : is-table t ≡ true) where
   abbrev n : ℕ

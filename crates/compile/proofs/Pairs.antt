@@ -13,38 +13,17 @@ use borrow.Author.Tests.{eqb-true, eqb-false, eq-eqb, ne-eqb}
 use Rattle.base.specs.Acts.{if_then_else_}
 use Rattle.base.proofs.Settled.{both}
 use Rattle.text.specs.Sizes.{cells}
-use Rattle.record.specs.Records.{Record, LOADI, LOAD, ADD, STORE, JMP, JMPLESS, JMPGE, AssemblyCode, named, rename, address}
+use Rattle.record.specs.Records.{Record, AssemblyCode, named, rename, address}
+use Rattle.record.specs.Bytes.{option-map}
 use Rattle.record.specs.declared.Variable.{Variable}
 use Rattle.compile.specs.Claims.{Pairs}
 use Rattle.compile.specs.Compilation.{ccomp}
 use Rattle.compile.specs.Table.{member, mentions, vars, addr-of, to-m-prog, addresses, in-order}
 use Rattle.compile.proofs.Entries.{member-first, member-later, address-distinct, member-address, member-once}
-use Rattle.compile.proofs.Entries.{mentions-one, mentions-none, named-member}
+use Rattle.compile.proofs.Entries.{named-rename, mentions-one, mentions-none, named-member}
 use Rattle.compile.proofs.Tables.{named-variables}
 
 -- ---- Renaming
-
--- What a renamed record names
-named-renamed : {X Y : Type 0} (f : X → Y) (r : Record X) {x : X} → named r ≡ some x
-    → named (rename f r) ≡ some (f x)
-unfolding rename
-named-renamed f (LOADI z) e = let no : _≡_ {A = ℕ} 0 1 = cc in absurd (omega arith)
-named-renamed f (LOAD y) {x} e = let same : y ≡ x = cc in ap (λ v. some (f v)) same
-named-renamed f ADD e = let no : _≡_ {A = ℕ} 0 1 = cc in absurd (omega arith)
-named-renamed f (STORE y) {x} e = let same : y ≡ x = cc in ap (λ v. some (f v)) same
-named-renamed f (JMP i) e = let no : _≡_ {A = ℕ} 0 1 = cc in absurd (omega arith)
-named-renamed f (JMPLESS i) e = let no : _≡_ {A = ℕ} 0 1 = cc in absurd (omega arith)
-named-renamed f (JMPGE i) e = let no : _≡_ {A = ℕ} 0 1 = cc in absurd (omega arith)
-
-unnamed-renamed : {X Y : Type 0} (f : X → Y) (r : Record X) → named r ≡ none → named (rename f r) ≡ none
-unfolding rename
-unnamed-renamed f (LOADI z) e = refl
-unnamed-renamed f (LOAD y) e = let no : _≡_ {A = ℕ} 0 1 = cc in absurd (omega arith)
-unnamed-renamed f ADD e = refl
-unnamed-renamed f (STORE y) e = let no : _≡_ {A = ℕ} 0 1 = cc in absurd (omega arith)
-unnamed-renamed f (JMP i) e = refl
-unnamed-renamed f (JMPLESS i) e = refl
-unnamed-renamed f (JMPGE i) e = refl
 
 -- A number that g keeps apart from those of xs is among them where it is among what g makes of them.
 member-map : (g : ℕ → ℕ) (v : ℕ) (xs : List ℕ) → ((w : ℕ) → member w xs ≡ true → g v ≡ g w → v ≡ w)
@@ -68,7 +47,7 @@ module _ {X Y : Type 0} (number : X → ℕ) (number′ : Y → ℕ) (f : X → 
 
   pub mentions-renamed : (P : List (Record X)) → Apart P
       → mentions number′ (map (rename f) P) ≡ map g (mentions number P)
-  unfolding mentions
+  unfolding mentions option-map
   mentions-renamed [] h = refl
   mentions-renamed (r ∷ P) h = by (named r) refl (mentions-renamed P (λ u w m k. h u w (among u m) (among w k)))
     where
@@ -97,10 +76,10 @@ module _ {X Y : Type 0} (number : X → ℕ) (number′ : Y → ℕ) (f : X → 
       by : (o : Option X) → named r ≡ o → ys ≡ map g xs
           → mentions number′ (rename f r ∷ map (rename f) P) ≡ map g (mentions number (r ∷ P))
       by none e i =
-          mentions-none number′ (rename f r) (map (rename f) P) (unnamed-renamed f r e) ∙ i
+          mentions-none number′ (rename f r) (map (rename f) P) (named-rename f r ∙ ap (option-map f) e) ∙ i
           ∙ ap (map g) (sym (mentions-none number r P e))
       by (some x) e i =
-          mentions-one number′ (rename f r) (map (rename f) P) (named-renamed f r e) ∙ grown x e i
+          mentions-one number′ (rename f r) (map (rename f) P) (named-rename f r ∙ ap (option-map f) e) ∙ grown x e i
           ∙ ap (map g) (sym (mentions-one number r P e))
 
 -- ---- Numbers in order
