@@ -1,6 +1,6 @@
--- `run_paired` (Paired: AnyMemory, PairedRefusals, PairingsPass, PairedFitted): what its tests say, one after the other; where
--- they are passed, it is the row of three calls (Rows); what `compile` wrote passes them, and is then run as the four calls
--- run it (Rows, Memories).
+-- `run_paired` (Paired: AnyMemory, PairedRefusals, PassingPairs, PairingsPass, PairedFitted): what its tests say, one after the
+-- other; where they are passed, it is the row of three calls (Rows); what `compile` wrote passes them, and is then run as the
+-- four calls run it (Rows, Memories).
 use mathlib.Core.Path.{_≡_, refl, sym, _∙_, ap, ap₂}
 use Prim.Native.Nat.{ℕ, _+_, _*_, _%_, _≤_}
 use native.Mathlib.Decide.{ℕ-discrete}
@@ -39,14 +39,15 @@ use Rattle.compile.specs.Table.{to-m-prog, table, named-in, agrees}
 use Rattle.compile.specs.Calls.{machine-bytes}
 use Rattle.compile.proofs.Calls.{machine-count, Wrote, wrote}
 use Rattle.compile.proofs.Codes.{codes}
+use Rattle.compile.proofs.OwnPairs.{own-pairs}
 use Rattle.compile.proofs.Pairs.{pairs}
 use Rattle.compile.proofs.Tables.{tables, named-variables}
 use Rattle.fitting.specs.Loading.{loaded, read-back}
 use Rattle.fitting.specs.Calls.{table-tests}
 use Rattle.fitting.specs.Rows.{Lent, buffers, load-run-read}
-use Rattle.fitting.specs.Paired.{paired-tests, run-paired, AnyMemory, PairedRefusals, ByCompiler, PairingsPass}
-use Rattle.fitting.specs.Paired.{PairedFitted}
-use Rattle.fitting.proofs.Calls.{names-own, names-few}
+use Rattle.fitting.specs.Paired.{paired-tests, run-paired, AnyMemory, PairedRefusals, PassingPairs, ByCompiler}
+use Rattle.fitting.specs.Paired.{PairingsPass, PairedFitted}
+use Rattle.fitting.proofs.Calls.{tabled, names-own, names-few}
 use Rattle.fitting.proofs.Loading.{length-loaded}
 use Rattle.fitting.proofs.Memories.{translated}
 use Rattle.fitting.proofs.Rows.{three-calls, table-passes}
@@ -91,7 +92,7 @@ module _ (code t : List ℕ) (store : Store) (D : ℕ) where
     P = f .records
 
     -- all of the code is records
-    pub all-code : take (5 * length P) code ≡ code
+    all-code : take (5 * length P) code ≡ code
     all-code =
         let count = records-length (machine-kind n) code 0 (record-count code) (f .given) in
         let five = eqb-true (length code % 5) 0 (both _ _ (f .whole) .0) in
@@ -112,16 +113,14 @@ module _ (code t : List ℕ) (store : Store) (D : ℕ) where
     finds-all = ap (λ code. machine-tests code (loaded t D n store) D n) all-code ∙ finds-records
 
     -- the tests, the other way
-    pub pair-passes : paired-tests code t store D ≡ gives z
+    pair-passes : paired-tests code t store D ≡ gives z
     unfolding paired-tests and-then
     pair-passes = rw (f .whole, f .names, f .given, f .agree, le-leb D 64 (f .deep)) (ap gives (sym (f .sizes-are)))
 
 -- ---- The call
 
 module _ (code t : List ℕ) (store : Store) (D budget : ℕ) where
-  abbrev own : Lent
-  own = buffers code t (replicate (D + 1 + named-in t) (pos 0)) store
-
+  -- what is told of the row
   abbrev of-row : Answer Ran × Lent → Answer Ran × Store
   of-row r = (r .0, r .1 .store)
 
@@ -188,6 +187,16 @@ paired-refusals code t store s D budget number place = (
   refusals code t store s D budget number place (paired-tests code t store D) refl,
   λ (e, same). sym (pair-declines code t store D budget e) ∙ (λ i. (refused number place, sym same i)),
 )
+
+pub passing-pairs : PassingPairs
+passing-pairs code t store D z e =
+    let f = pair-found code t store D e in
+    let x = tabled t store (f .names) in
+    let cells = ap (λ (z : Sizes). z .cells) (f .sizes-are) in (
+      f .records,
+      ap (λ n. records-of (machine-kind n) code) cells ∙ f .given,
+      own-pairs t (x .bytes) (x .passes) (f .records) .0 (f .agree),
+    )
 
 -- A command's machine code, table and D
 module _ (c : Command) (w : Within c) where

@@ -59,7 +59,7 @@ module _ (code t : List ℕ) (memory : List ℤ) (store : Store) (k D n budget :
   loads = simp (pod-passes memory long)
 
   -- a run keeps the memory's length
-  pub left-length : length (ran-of .leaves .memory) ≡ D + 1 + n
+  left-length : length (ran-of .leaves .memory) ≡ D + 1 + n
   left-length = keeps-length P (loaded t D n store) D budget ∙ length-loaded t D n store
 
   reads : read-back-call t (ran-of .leaves .memory) D store ≡ (gives n, read-back t D store (ran-of .leaves .memory))

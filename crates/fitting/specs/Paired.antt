@@ -16,9 +16,11 @@ use Rattle.text.specs.Sizes.{sized}
 use Rattle.text.specs.declared.Sizes.{Sizes}
 use Rattle.source.specs.Rules.{Store}
 use Rattle.source.specs.Calls.{run-source}
+use Rattle.record.specs.Records.{MachineCode}
 use Rattle.record.specs.Bytes.{machine-kind, whole-records, records-of}
 use Rattle.compile.specs.Table.{named-in, agrees}
 use Rattle.compile.specs.Calls.{Compiled, compile}
+use Rattle.compile.specs.Claims.{OwnPair}
 use Rattle.fitting.specs.Calls.{table-tests}
 use Rattle.fitting.specs.Rows.{Lent, buffers, load-run-read}
 
@@ -71,6 +73,12 @@ abbrev pub PairedRefusals : Type 0
 PairedRefusals = (code t : List ℕ) (store s : Store) (D budget number place : ℕ)
     → (run-paired code t store D budget ≡ (refused number place, s))
     ↔ ((paired-tests code t store D ≡ refused number place) × (s ≡ store))
+
+-- What passes the tests belongs together: the assembly that code and table go back to has those machine records, and that
+-- table.
+abbrev pub PassingPairs : Type 0
+PassingPairs = (code t : List ℕ) (store : Store) (D : ℕ) (z : Sizes) → paired-tests code t store D ≡ gives z
+    → (P : MachineCode) × (records-of (machine-kind (z .cells)) code ≡ gives P) × OwnPair t P
 
 -- Code, a table and D "by our compiler": what `compile` wrote of a text, and the D that it gave
 pub record ByCompiler (text code t : List ℕ) (D : ℕ) : Type 0 where
