@@ -76,9 +76,9 @@ fn plain(code: &[u8], table: &[u8], store: &mut [i32], depth: usize, budget: u32
     }
     let mut memory = [0; 129];
     let memory = &mut memory[..depth + 1 + n];
-    tables::load(table, store, depth, memory)?;
+    tables::to_memory(table, store, depth, memory);
     let ran = executors::run_machine(code, memory, depth, budget);
-    tables::read_back(table, memory, depth, store)?;
+    tables::to_store(table, memory, depth, store);
     Ok(ran)
 }
 

@@ -37,26 +37,38 @@ fn tested(table: &[u8], store: &[i32], depth: usize, memory: &[i32]) -> Result<u
     Ok(n)
 }
 
-#[inline(never)]
-pub fn load(table: &[u8], store: &[i32], depth: usize, memory: &mut [i32]) -> Result<usize, Refusal> {
-    let n = tested(table, store, depth, memory)?;
-    memory.fill(0);
+/// Each named variable at its address, of a table, a store and a memory that passed their tests,
+#[inline(always)]
+pub fn to_memory(table: &[u8], store: &[i32], depth: usize, memory: &mut [i32]) {
     for (&address, &value) in table.iter().zip(store) {
         if address != 0 {
             memory[depth + address as usize] = value;
         }
     }
-    Ok(n)
 }
 
-#[inline(never)]
-pub fn read_back(table: &[u8], memory: &[i32], depth: usize, store: &mut [i32]) -> Result<usize, Refusal> {
-    let n = tested(table, store, depth, memory)?;
+/// and from its address.
+#[inline(always)]
+pub fn to_store(table: &[u8], memory: &[i32], depth: usize, store: &mut [i32]) {
     for (&address, value) in table.iter().zip(store) {
         if address != 0 {
             *value = memory[depth + address as usize];
         }
     }
+}
+
+#[inline(never)]
+fn load(table: &[u8], store: &[i32], depth: usize, memory: &mut [i32]) -> Result<usize, Refusal> {
+    let n = tested(table, store, depth, memory)?;
+    memory.fill(0);
+    to_memory(table, store, depth, memory);
+    Ok(n)
+}
+
+#[inline(never)]
+fn read_back(table: &[u8], memory: &[i32], depth: usize, store: &mut [i32]) -> Result<usize, Refusal> {
+    let n = tested(table, store, depth, memory)?;
+    to_store(table, memory, depth, store);
     Ok(n)
 }
 

@@ -24,7 +24,7 @@ static uint8_t text[LONGEST + 1], code[RECORD * LONGEST], assembly[RECORD * LONG
 static int32_t store[64];
 static size_t length;
 static unsigned records;
-static int refused; /* whether a paired run of any records was */
+static int refused; /* set where a paired run of one record or more is refused */
 
 /* The calls, on the buffers above. */
 static void nothing(void) {}

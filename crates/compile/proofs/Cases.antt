@@ -1,5 +1,5 @@
 -- The records of profile C, the addresses of profile I, the bytes of profile B, and where the calls decline, by
--- computation (Cases: Listing, ShortListing, Addresses, BytesOfB, AssembleDeclines, CompileDeclines, GoBackDeclines).
+-- computation (Cases: Listing, ShortListing, AddressesOfI, BytesOfB, AssembleDeclines, CompileDeclines, GoBackDeclines).
 use mathlib.Core.Path.{refl}
 use Rattle.base.specs.Acts.{then′, give}
 use Rattle.base.specs.Answers.{and-then, settle}
@@ -16,7 +16,7 @@ use Rattle.record.specs.Bytes.{is-zero, record-of, in-front, records-from}
 use Rattle.compile.specs.Compilation.{acomp, bcomp, ccomp}
 use Rattle.compile.specs.Table.{member, once, mentions, addr-of, entries, times, once-each, in-order, variable-at}
 use Rattle.compile.specs.Calls.{assemble-tests, assemble, compile-tests, compile, go-back-tests, go-back}
-use Rattle.compile.specs.Cases.{Listing, ShortListing, Addresses, BytesOfB, AssembleDeclines}
+use Rattle.compile.specs.Cases.{Listing, ShortListing, AddressesOfI, BytesOfB, AssembleDeclines}
 use Rattle.compile.specs.Cases.{CompileDeclines, GoBackDeclines, Agreements}
 
 pub listing : Listing
@@ -33,12 +33,12 @@ unfolding C·text then′ give and-then number-of number-at byte-number
     ccomp acomp bcomp
 short-listing = refl
 
-pub addresses : Addresses
+pub addresses-of-I : AddressesOfI
 unfolding I·text then′ give and-then number-of number-at
     expression-byte condition-byte command-byte decline there due pass operand number-due number
     expression-of expression condition-of condition command-of command all-read read-text
     ccomp acomp bcomp rename mentions member once addr-of entries
-addresses = (refl, refl)
+addresses-of-I = (refl, refl)
 
 pub bytes-of-B : BytesOfB
 unfolding B·text then′ give and-then settle number-of number-at bits-of bytes-of

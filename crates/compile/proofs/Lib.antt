@@ -11,5 +11,5 @@ pub mod Pairs
 pub mod Codes
 pub mod Calls
 pub mod GoingBack
-pub mod OwnPairs
+pub mod AgreeingPairs
 pub mod Respelling

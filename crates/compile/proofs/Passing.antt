@@ -174,11 +174,11 @@ times-two a (x ∷ t) (suc v) (suc w) l h e f = by (eqb x a) (times-two a t v w 
 -- ---- A table that passes
 
 module _ (t : List ℕ) (passes : is-table t ≡ true) where
-  pub once : (a : ℕ) → 1 ≤ a → a ≤ named-in t → times a t ≡ 1
-  once a low high = once-at t 1 (named-in t) a passes low (omega arith)
+  pub stands-once : (a : ℕ) → 1 ≤ a → a ≤ named-in t → times a t ≡ 1
+  stands-once a low high = once-at t 1 (named-in t) a passes low (omega arith)
 
   all-below : below (suc (named-in t)) t ≡ length t
-  all-below = omega (arith, below-once t (named-in t) once, times-most 0 t)
+  all-below = omega (arith, below-once t (named-in t) stands-once, times-most 0 t)
 
   -- Nothing above n stands in it.
   pub absent : (a : ℕ) → named-in t < a → times a t ≡ 0
@@ -197,7 +197,7 @@ module _ (t : List ℕ) (passes : is-table t ≡ true) where
       elim (decLt w (length t)) [
         | yes h ↦
             let a = getD t v 0 in
-            omega (arith, times-two a t v w l h refl (sym e), once a (omega arith) (entries-most v))
+            omega (arith, times-two a t v w l h refl (sym e), stands-once a (omega arith) (entries-most v))
         | no h ↦ omega (arith, List·getD-eq-default t 0 {n = w} (omega arith))
       ]
 

@@ -38,8 +38,8 @@ abbrev pub ShortListing : Type 0
 ShortListing = assembly-of C·short ≡ assembly-of C·text
 
 -- "x0 := x1; x2 := x1: addresses x2 1, x1 2, x0 3": by last mention.
-abbrev pub Addresses : Type 0
-Addresses = (machine-of I·text ≡ gives (
+abbrev pub AddressesOfI : Type 0
+AddressesOfI = (machine-of I·text ≡ gives (
     LOAD (address 2) ∷ STORE (address 3) ∷ LOAD (address 2) ∷ STORE (address 1) ∷ []))
     × (and-then (table-of I·text) (λ t. gives (take 4 t)) ≡ gives (3 ∷ 2 ∷ 1 ∷ 0 ∷ []))
 
@@ -51,8 +51,8 @@ pub record Agreements : Type 0 where
   pub no-address : agrees (ADD ∷ JMP (pos 0) ∷ []) 0 ≡ true
   -- 2 before 1: in order from the first record on, but not from the last one backwards
   pub not-forwards : agrees (LOAD (address 1) ∷ STORE (address 2) ∷ []) 2 ≡ false
-  -- 3 at its first sight after 1
-  pub two-left-out : agrees (LOAD (address 3) ∷ STORE (address 1) ∷ []) 3 ≡ false
+  -- 3 at its first sight after 1, and as many seen as n
+  pub two-left-out : agrees (LOAD (address 3) ∷ STORE (address 1) ∷ []) 2 ≡ false
   -- 1 alone, and n 2; 1 and 2, and n 1
   pub too-few : agrees (STORE (address 1) ∷ []) 2 ≡ false
   pub too-many : agrees (LOAD (address 2) ∷ STORE (address 1) ∷ []) 1 ≡ false

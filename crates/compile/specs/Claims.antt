@@ -1,7 +1,7 @@
 -- What is claimed of compiled code. The proof of the same spelling stands in proofs/.
 -- Compilation gives as many records as reading says and names as many variables; machine code with its table goes back
--- to the same assembly, for the definitions and for the calls; the two agree, and what that means; a constant's width changes
--- no record.
+-- to the same assembly, for the definitions and for the calls; the two agree, and what it means that a table and code do; a
+-- constant's width changes no record.
 use mathlib.Core.Path.{_≡_}
 use mathlib.Core.Logic.{_↔_}
 use Prim.Native.Nat.{ℕ, _*_, _≤_}
@@ -74,15 +74,15 @@ GoesBack = (text : List ℕ) → Bytes text → (c : Command) → read-text text
     → let left = compile text lent .1 in
     go-back (take (5 * records c) (left .code)) (left .table) out ≡ (gives (records c), assemble text out .1)
 
--- What it means that a table and machine code agree (document 02, W6): they are one another's own. The assembly that they go
--- back to has that machine code, and that table.
-pub record OwnPair (t : List ℕ) (P : MachineCode) : Type 0 where
+-- What it means that a table and machine code agree (document 02, W6): the published translation makes both of one assembly,
+-- the one that they go back to. (So it is of every table with that n. Which variable has which address, only a table says.)
+pub record OneAssembly (t : List ℕ) (P : MachineCode) : Type 0 where
   pub same-code : to-m-prog (to-assembly t P) ≡ P
   pub same-table : table (to-assembly t P) ≡ t
 
-abbrev pub OwnPairs : Type 0
-OwnPairs = (t : List ℕ) → length t ≡ 64 → is-table t ≡ true → (P : MachineCode)
-    → (agrees P (named-in t) ≡ true) ↔ OwnPair t P
+abbrev pub AgreeingPairs : Type 0
+AgreeingPairs = (t : List ℕ) → length t ≡ 64 → is-table t ≡ true → (P : MachineCode)
+    → (agrees P (named-in t) ≡ true) ↔ OneAssembly t P
 
 -- ---- Two spellings of constants
 

@@ -13,7 +13,7 @@ use lib.Pow.{pow-lt, pow-mono, ones-lt}
 use borrow.Author.Tests.{ltb-true, ltb-false, lt-ltb, le-ltb, ne-eqb}
 use Rattle.base.specs.Acts.{if_then_else_}
 use Rattle.compile.specs.Table.{times, named-in, is-table}
-use Rattle.compile.proofs.Passing.{once, absent, stand-passes}
+use Rattle.compile.proofs.Passing.{stands-once, absent, stand-passes}
 use Rattle.compile_table.specs.Marks.{address-bit, marks, bit, lowest, WordTest}
 use Rattle.compile_table.proofs.Bits.{bit-none, bit-power, bit-or, bit-past, bit-lowest, same-bits}
 
@@ -77,7 +77,7 @@ module _ (t : List ℕ) (size : length t ≡ 64) where
   bits-lowest h b =
       elim (decLt b (named-in t)) [
         | yes l ↦
-            stands-set t b (omega arith) (omega (arith, once t h (suc b) (omega arith) (omega arith)))
+            stands-set t b (omega arith) (omega (arith, stands-once t h (suc b) (omega arith) (omega arith)))
             ∙ sym (lt-ltb b (named-in t) l)
         | no l ↦
             elim (decLt b 64) [

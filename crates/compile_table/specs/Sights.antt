@@ -10,7 +10,8 @@ use Rattle.base.specs.Answers.{gives}
 use Rattle.record.specs.Records.{MachineCode}
 use Rattle.record.specs.Bytes.{machine-kind, records-from}
 
--- The address that the bytes of MLOAD or MSTORE at an index name; 0 where another record stands there
+-- The address that a tested record at an index names, the lowest byte of its operand, since it is at most 64; 0 where the record
+-- is neither MLOAD nor MSTORE
 unfoldable pub address-at : List ℕ → ℕ → ℕ
 address-at code i =
     if eqb (getD code (5 * i) 0) 0x51 || eqb (getD code (5 * i) 0) 0x53 then getD code (5 * i + 1) 0 else 0

@@ -95,7 +95,7 @@ pub fn names(table: &[u8]) -> Named
 
 // ---- The table's n and the addresses in machine code
 
-// The address that the machine record at an index names, 0 if it names none.
+// The address that the tested machine record at an index names, 0 if it names none.
 fn address_at(code: &[u8], i: usize) -> usize
     requires { ⌜ 5 * i + 1 < length (now code) ⌝ }
     ensures { λ r. ⌜ r ≡ address-at (now (code .entry)) i ⌝ }

@@ -39,7 +39,7 @@ use Rattle.compile.specs.Table.{to-m-prog, table, named-in, agrees}
 use Rattle.compile.specs.Calls.{machine-bytes}
 use Rattle.compile.proofs.Calls.{machine-count, Wrote, wrote}
 use Rattle.compile.proofs.Codes.{codes}
-use Rattle.compile.proofs.OwnPairs.{own-pairs}
+use Rattle.compile.proofs.AgreeingPairs.{agreeing-pairs}
 use Rattle.compile.proofs.Pairs.{pairs}
 use Rattle.compile.proofs.Tables.{tables, named-variables}
 use Rattle.fitting.specs.Loading.{loaded, read-back}
@@ -162,12 +162,11 @@ pub any-memory : AnyMemory
 any-memory code t store D z e budget memory long =
     let f = pair-found code t store D e in
     let cells = ap (λ (z : Sizes). z .cells) (f .sizes-are) in
-    let deep = ap (λ (z : Sizes). z .depth) (f .sizes-are) in
     record {
       tell = _;
-      left = _;
+      leave = _;
       in-a-row = sym (three code t store D budget f memory (long ∙ ap (λ k. D + 1 + k) cells));
-      in-one-call = ap (λ D. run-paired code t store D budget) deep ∙ sym (pair-runs code t store D budget f);
+      in-one-call = sym (pair-runs code t store D budget f);
     }
 
 -- What the call gives and leaves, by what its tests answer
@@ -195,7 +194,7 @@ passing-pairs code t store D z e =
     let cells = ap (λ (z : Sizes). z .cells) (f .sizes-are) in (
       f .records,
       ap (λ n. records-of (machine-kind n) code) cells ∙ f .given,
-      own-pairs t (x .bytes) (x .passes) (f .records) .0 (f .agree),
+      agreeing-pairs t (x .bytes) (x .passes) (f .records) .0 (f .agree),
     )
 
 -- A command's machine code, table and D
@@ -203,9 +202,9 @@ module _ (c : Command) (w : Within c) where
   few-records : records c ≤ 4096
   few-records = omega (arith, short c, w .short)
 
-  abbrev own-pair : (store : Store) → length store ≡ 64
+  abbrev compiled-pair : (store : Store) → length store ≡ 64
       → PairFound (machine-bytes c) (table (ccomp c)) store (depth c) (sizes c)
-  own-pair store long =
+  compiled-pair store long =
       let P = to-m-prog (ccomp c) in
       let count = machine-count c in
       let named = named-variables c (w .valid) .in-table in
@@ -232,8 +231,8 @@ module _ (c : Command) (w : Within c) where
 
 -- What `compile` wrote is a command's.
 module _ {text code t : List ℕ} {D : ℕ} (pair : ByCompiler text code t D) where
-  by-command : Wrote text (pair .left) (pair .sizes)
-  by-command = wrote text (pair .lent) (pair .left) (pair .sizes) (pair .compiles)
+  by-command : Wrote text (pair .written) (pair .sizes)
+  by-command = wrote text (pair .lent) (pair .written) (pair .sizes) (pair .compiles)
 
   abbrev c : Command
   c = by-command .command
@@ -254,7 +253,7 @@ pairings-pass text code t D pair store long =
     let w = by-command pair in
     let c = w .command in
     of-command pair (λ code t D. paired-tests code t store D)
-    ∙ pair-passes (machine-bytes c) (table (ccomp c)) store (depth c) (own-pair c (within pair) store long)
+    ∙ pair-passes (machine-bytes c) (table (ccomp c)) store (depth c) (compiled-pair c (within pair) store long)
     ∙ ap gives (sym (w .sizes-are))
 
 pub paired-fitted : PairedFitted
@@ -271,7 +270,7 @@ paired-fitted text code t D pair store budget =
         let t = table (ccomp c) in
         let D = depth c in
         let valid = within pair .valid in
-        sym (pair-runs (machine-bytes c) t store D budget (own-pair c (within pair) store long))
+        sym (pair-runs (machine-bytes c) t store D budget (compiled-pair c (within pair) store long))
         ∙ ap (λ n. let ran = machine-run P (loaded t D n store) D budget in
         (gives (report budget ran), read-back t D store (ran .leaves .memory))) (named-variables c valid .in-table)
         ∙ ap (λ (r : Result Store). (gives (report budget r), r .leaves)) (translated sum32 c valid store long budget)

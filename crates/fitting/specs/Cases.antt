@@ -236,7 +236,7 @@ pub record PreviewDeclines : Type 0 where
 
 -- ---- Code and its table in one call
 
--- x0 becomes 9, and then comes what the rest comes to; x0 has address 1, D is 2
+-- MLOADI 9, MSTORE 1 and then the rest, from sevens; x0 has address 1, D is 2
 abbrev pub after-nine : List ℕ → ℕ → Answer Ran × Store
 after-nine rest budget = run-paired (five 0x50 9 ++ (five 0x53 1 ++ rest)) one-entry (sevens 64) 2 budget
 
@@ -258,7 +258,7 @@ pub record PairedEnds : Type 0 where
   -- MJMP 1
   pub ends-astray : after-nine (five 0x54 1) 9 ≡ nine-left (ran (fault astray) 3 1)
 
--- B's machine code with its table and D, from sevens: x1 is loaded, and x0 read back once it is stored.
+-- B's machine code with its table and D, from sevens: x0 is x1 + 5 once it is stored.
 pub record PairedOfB : Type 0 where
   pub under-3 : run-paired B·machine B·table (sevens 64) 2 3 ≡ (gives (ran spent 3 2), sevens 64)
   pub under-4 : run-paired B·machine B·table (sevens 64) 2 4 ≡ (gives (ran done 4 2), pos 12 ∷ sevens 63)
@@ -272,7 +272,7 @@ pub record PairedDeclines : Type 0 where
   pub eight-table : run-paired (five 0x53 1) (1 ∷ replicate 62 0) (sevens 64) 2 9 ≡ (refused 8 0, sevens 64)
   -- 12: two entries 1
   pub twelve : run-paired (five 0x51 2 ++ five 0x53 1) (two-ones 62) (sevens 64) 2 9 ≡ (refused 12 0, sevens 64)
-  -- 10: `52 01 00 00 00`; the address 2, where the table names one variable; at index 1
+  -- 10: `52 01 00 00 00`; the address 2, where the table names one variable; the address 0, at index 1
   pub ten : run-paired (five 0x52 1 ++ five 0x53 1) one-entry (sevens 64) 2 9 ≡ (refused 10 0, sevens 64)
   pub ten-address-2 : run-paired (five 0x51 2 ++ five 0x53 1) one-entry (sevens 64) 2 9 ≡ (refused 10 0, sevens 64)
   pub ten-second : run-paired (five 0x51 1 ++ five 0x51 0) one-entry (sevens 64) 2 9 ≡ (refused 10 1, sevens 64)

@@ -20,14 +20,14 @@ use Rattle.record.specs.Records.{MachineCode}
 use Rattle.record.specs.Bytes.{machine-kind, whole-records, records-of}
 use Rattle.compile.specs.Table.{named-in, agrees}
 use Rattle.compile.specs.Calls.{Compiled, compile}
-use Rattle.compile.specs.Claims.{OwnPair}
+use Rattle.compile.specs.Claims.{OneAssembly}
 use Rattle.fitting.specs.Calls.{table-tests}
 use Rattle.fitting.specs.Rows.{Lent, buffers, load-run-read}
 
 -- ---- The call
 
--- Whole records with the n of their table: 10; 14, "after 12 and 10 and before 11, when they disagree"; 11, where D is above 64.
--- The record count, D and n
+-- Whole records with the n of their table: 10; 14, "after 12 and 10 and before 11, when they disagree"; 11, where D is above
+-- 64. The record count, D and n
 abbrev pub pair-tests : List ℕ → ℕ → ℕ → Answer Sizes
 pair-tests code n D =
     and-then (records-of (machine-kind n) code) (λ P.
@@ -42,6 +42,7 @@ paired-tests code t store D =
     and-then (table-tests t store) (λ n.
     pair-tests code n D)
 
+-- as a call of a row
 abbrev pub testing : ℕ → Row Lent Sizes
 testing D l = call (paired-tests (l .code) (l .table) (l .store) D) l
 
@@ -57,16 +58,16 @@ run-paired code t store D budget =
 
 -- What the memory holds makes no difference: once the tests are passed, it gives and leaves what `load`, `run_machine` and
 -- `read_back` in a row give and leave on any memory of D + 1 + n cells; and none of the three declines.
-pub record OnAnyMemory (code t : List ℕ) (store : Store) (z : Sizes) (budget : ℕ) (memory : List ℤ) : Type 0 where
+pub record OnAnyMemory (code t : List ℕ) (store : Store) (D : ℕ) (z : Sizes) (budget : ℕ) (memory : List ℤ) : Type 0 where
   pub tell : Ran
-  pub left : Lent
-  pub in-a-row : answered (load-run-read z budget (buffers code t memory store)) ≡ (gives tell, left)
-  pub in-one-call : run-paired code t store (z .depth) budget ≡ (gives tell, left .store)
+  pub leave : Lent
+  pub in-a-row : answered (load-run-read z budget (buffers code t memory store)) ≡ (gives tell, leave)
+  pub in-one-call : run-paired code t store D budget ≡ (gives tell, leave .store)
 
 abbrev pub AnyMemory : Type 0
 AnyMemory = (code t : List ℕ) (store : Store) (D : ℕ) (z : Sizes) → paired-tests code t store D ≡ gives z
     → (budget : ℕ) (memory : List ℤ) → length memory ≡ D + 1 + z .cells
-    → OnAnyMemory code t store z budget memory
+    → OnAnyMemory code t store D z budget memory
 
 -- It declines exactly where its tests do, with their number and place, and then leaves the store as it was.
 abbrev pub PairedRefusals : Type 0
@@ -74,21 +75,20 @@ PairedRefusals = (code t : List ℕ) (store s : Store) (D budget number place : 
     → (run-paired code t store D budget ≡ (refused number place, s))
     ↔ ((paired-tests code t store D ≡ refused number place) × (s ≡ store))
 
--- What passes the tests belongs together: the assembly that code and table go back to has those machine records, and that
--- table.
+-- What passes the tests is what the published translation makes of one assembly, the one that code and table go back to.
 abbrev pub PassingPairs : Type 0
 PassingPairs = (code t : List ℕ) (store : Store) (D : ℕ) (z : Sizes) → paired-tests code t store D ≡ gives z
-    → (P : MachineCode) × (records-of (machine-kind (z .cells)) code ≡ gives P) × OwnPair t P
+    → (P : MachineCode) × (records-of (machine-kind (z .cells)) code ≡ gives P) × OneAssembly t P
 
 -- Code, a table and D "by our compiler": what `compile` wrote of a text, and the D that it gave
 pub record ByCompiler (text code t : List ℕ) (D : ℕ) : Type 0 where
   pub bytes : Bytes text
   pub lent : Compiled
-  pub left : Compiled
+  pub written : Compiled
   pub sizes : Sizes
-  pub compiles : compile text lent ≡ (gives sizes, left)
-  pub code-is : code ≡ take (5 * sizes .records) (left .code)
-  pub table-is : t ≡ left .table
+  pub compiles : compile text lent ≡ (gives sizes, written)
+  pub code-is : code ≡ take (5 * sizes .records) (written .code)
+  pub table-is : t ≡ written .table
   pub depth-is : D ≡ sizes .depth
 
 -- "A pairing by our compiler always passes": with any store of 64 cells the tests give what `compile` gave.
@@ -96,8 +96,8 @@ abbrev pub PairingsPass : Type 0
 PairingsPass = (text code t : List ℕ) (D : ℕ) (pair : ByCompiler text code t D) (store : Store) → length store ≡ 64
     → paired-tests code t store D ≡ gives (pair .sizes)
 
--- Demand 3 in one call: on what `compile` wrote of a text it gives what the source run of that text gives, and leaves the same
--- 64 cells, from every store, under every budget.
+-- Demand 3 in one call: on what `compile` wrote of a text it gives what the source run of that text gives, and leaves the
+-- same 64 cells, from every store, under every budget. (With a store of another length both decline with 8.)
 abbrev pub PairedFitted : Type 0
 PairedFitted = (text code t : List ℕ) (D : ℕ) → ByCompiler text code t D → (store : Store) (budget : ℕ)
     → run-paired code t store D budget ≡ run-source text store budget

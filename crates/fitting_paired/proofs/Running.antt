@@ -19,7 +19,7 @@ use Rattle.fitting.proofs.Paired.{PairFound, pair-found, finds-records, pair-ru
 use Rattle.fitting_load.specs.Fits.{Fits}
 use Rattle.fitting_load.proofs.Tests as Load
 
--- As many of some zeros
+-- The first k of m zeros
 pub zeros-taken : (k m : ℕ) → k ≤ m → take k (replicate m (pos 0)) ≡ replicate k (pos 0)
 zeros-taken zero m l = refl
 zeros-taken (suc k) zero l = absurd (omega arith)

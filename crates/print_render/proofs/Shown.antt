@@ -121,7 +121,7 @@ module _ (text : List ℕ) (bytes : Bytes text) (z : Sizes) (r : Read text z) wh
     same-run = running text (record {
       bytes = bytes;
       lent = code-and-table m t;
-      left = code-and-table m′ t′;
+      written = code-and-table m′ t′;
       sizes = z;
       compiles =
           sym compiling

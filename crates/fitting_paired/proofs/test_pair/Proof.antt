@@ -15,9 +15,8 @@ asked c κs =
     passes _ _ _ _ (counted-records _ _ (s .args .depth) (s .pre .0) (arm .count .given .1) (t .test-machine .ensures))
     (s .pre .1)
 
--- 14
-disagrees : tie.Need-returns
-disagrees c =
+fourteen : tie.Need-returns
+fourteen c =
     let no : tie.Then1 = search in
     let a : tie.After-agrees = search in
     let arm : tie.After-count = search in
@@ -27,9 +26,8 @@ disagrees c =
     c .decline .ensures
     ∙ disagree _ _ _ _ x (sym (a .agrees .ensures (passes _ _ _ _ x (s .pre .1))) ∙ not-true _ (no .if1 .taken))
 
--- 11
-deep : tie.Need-returns-2
-deep c =
+eleven : tie.Need-returns-2
+eleven c =
     let no : tie.Then2 = search in
     let on : tie.Else1 = search in
     let a : tie.After-agrees = search in
@@ -50,9 +48,9 @@ test-pair-spec =
     (λ c. search needs)
     asked
     (λ c κs. search needs)
-    disagrees
+    fourteen
     (λ c κs. search needs)
-    deep
+    eleven
     -- 10
     (λ c.
     let r : tie.After-refusal = search in

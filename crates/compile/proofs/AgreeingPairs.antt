@@ -1,6 +1,6 @@
--- A table that passes and machine code agree exactly when they are one another's own (Claims: OwnPairs). If they agree, each
--- address is the entry of its variable and the place from the end at which that variable is named, so going back and translating
--- again changes nothing. The other way, what the translation makes of any assembly agrees.
+-- A table that passes and machine code agree exactly when both are made of one assembly (Claims: AgreeingPairs). If they agree,
+-- each address is the entry of its variable and the place from the end at which that variable is named, so going back and
+-- translating again changes nothing. The other way, what the translation makes of any assembly agrees.
 use mathlib.Core.Path.{_≡_, refl, sym, _∙_, ap}
 use Prim.Native.Nat.{ℕ, suc, _+_, _≤_, _<_}
 use native.Mathlib.Nat.{add-zero, zero-add, suc-add, add-suc}
@@ -18,13 +18,13 @@ use Rattle.base.proofs.Settled.{both}
 use Rattle.record.specs.Records.{Record, AssemblyCode, MachineCode, named, rename, variable, address}
 use Rattle.record.specs.Bytes.{option-map}
 use Rattle.record.specs.declared.Variable.{Variable}
-use Rattle.compile.specs.Claims.{OwnPair, OwnPairs}
+use Rattle.compile.specs.Claims.{OneAssembly, AgreeingPairs}
 use Rattle.compile.specs.Table.{member, mentions, vars, addr-of, to-m-prog, table, times, named-in, is-table}
 use Rattle.compile.specs.Table.{addresses, in-order, agrees, variable-at, to-assembly}
 use Rattle.compile.proofs.Entries.{none-some, member-first, member-later, address-none, length-entries}
 use Rattle.compile.proofs.Entries.{table-at, named-rename, named-member}
 use Rattle.compile.proofs.Tables.{Sound, sound-once, named-sound}
-use Rattle.compile.proofs.Passing.{once, entries-most, entries-distinct}
+use Rattle.compile.proofs.Passing.{stands-once, entries-most, entries-distinct}
 use Rattle.compile.proofs.Pairs.{mentions-renamed, member-low, member-within, addresses-are, ordered}
 use Rattle.compile.proofs.GoingBack.{variable-back, map-back}
 
@@ -108,7 +108,7 @@ module _ (t : List ℕ) (long : length t ≡ 64) (passes : is-table t ≡ true) 
 
   own-entry : (a : ℕ) → 0 < a → a ≤ n → getD t (g a) 0 ≡ a
   own-entry a l m =
-      let f = entry-of t 0 a (omega (arith, once t passes a l m)) in
+      let f = entry-of t 0 a (omega (arith, stands-once t passes a l m)) in
       ap (λ v. getD t v 0) (f .3 ∙ zero-add (f .0)) ∙ f .2
 
   -- ---- If they agree
@@ -165,7 +165,7 @@ module _ (t : List ℕ) (long : length t ≡ 64) (passes : is-table t ≡ true) 
         (λ v l.
         table-at Q v (omega (arith, length-entries (vars Q) 0 64)) ∙ address-is v (decLt 0 (getD t v 0)))
 
-  -- ---- If they are one another's own
+  -- ---- If they are made of one assembly
 
   sound-back : (P : MachineCode) → Sound (vars (to-assembly t P))
   unfolding mentions
@@ -177,8 +177,8 @@ module _ (t : List ℕ) (long : length t ≡ 64) (passes : is-table t ≡ true) 
       omega (arith, variable-below t 0 (f .0 .0) (omega arith), ap (λ (v : Variable). v .0) (f .1)))
       (sound-back P)
 
-  own-agree : (P : MachineCode) → OwnPair t P → agrees P n ≡ true
-  own-agree P x =
+  made-agree : (P : MachineCode) → OneAssembly t P → agrees P n ≡ true
+  made-agree P x =
       let Q = to-assembly t P in
       let are : addresses P ≡ map (addr-of (vars Q)) (vars Q) = ap addresses (sym (x .same-code)) ∙ addresses-are Q in
       let many : length (addresses P) ≡ n =
@@ -186,11 +186,11 @@ module _ (t : List ℕ) (long : length t ≡ 64) (passes : is-table t ≡ true) 
       ∙ ap named-in (x .same-table) in
       simp (ap in-order are ∙ ordered Q, eq-eqb (length (addresses P)) n many)
 
-pub own-pairs : OwnPairs
-own-pairs t long passes P = (
+pub agreeing-pairs : AgreeingPairs
+agreeing-pairs t long passes P = (
   λ agree. record {
     same-code = code-back t long passes P agree;
     same-table = table-back t long passes P agree;
   },
-  own-agree t long passes P,
+  made-agree t long passes P,
 )
