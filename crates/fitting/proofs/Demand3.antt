@@ -27,7 +27,7 @@ use Rattle.record.proofs.Written.{whole-written, written}
 use Rattle.machine.specs.Machine.{Machine, fresh, run}
 use Rattle.machine.specs.Memories.{Assembly, assembly, machine-cells}
 use Rattle.machine.specs.Calls.{machine-run, assembly-tests, assembly-run, run-assembly}
-use Rattle.machine.proofs.Inside.{inside}
+use Rattle.machine.proofs.Inside.{fresh-inside}
 use Rattle.compile.specs.Compilation.{ccomp}
 use Rattle.compile.specs.Table.{to-m-prog, table}
 use Rattle.compile.specs.Calls.{Compiled}
@@ -66,8 +66,8 @@ module _ (text : List ℕ) (bytes : Bytes text) (c : Command) (read : read-text 
   mark-low =
       subst (λ (r : Result Store). r .mark ≤ depth c)
       (translated sum32 c (within .valid) store (ready .store-cells) budget)
-      (inside sum32 (depth c) (machine-cells (depth c)) (to-m-prog (ccomp c)) budget
-      (loaded (table (ccomp c)) (depth c) (cells c) store) .2)
+      (fresh-inside sum32 (depth c) (machine-cells (depth c)) (to-m-prog (ccomp c)) budget
+      (loaded (table (ccomp c)) (depth c) (cells c) store) .marked)
 
 pub fitted : Fitted
 fitted text bytes c read lent memory store ready budget =
@@ -138,8 +138,9 @@ demand3 text bytes c read lent memory store ready budget =
       one-of-three = ends text lent memory store budget (exec sum32 c (start budget store)) m s
           (ticked sum32 steady32 c budget store .spent-all);
       stack = λ steps.
-          inside sum32 D (machine-cells D) (to-m-prog (ccomp c)) steps
-          (loaded (table (ccomp c)) D (cells c) store) .1;
+          let x = fresh-inside sum32 D (machine-cells D) (to-m-prog (ccomp c)) steps
+          (loaded (table (ccomp c)) D (cells c) store) in
+          omega (arith, x .held, x .marked);
       mark-within = λ e k μ t d.
           subst (λ (x : Ran × Store). x .0 .mark ≤ D)
           (gives-one (report budget r, r .leaves) (ran e k μ, t) (sym m ∙ d))

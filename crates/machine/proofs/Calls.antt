@@ -23,6 +23,7 @@ use Rattle.record.specs.Bytes.{Kind, assembly-kind, machine-kind}
 use Rattle.record.specs.Bytes.{whole-records, record-count, records-from, records-of}
 use Rattle.record.proofs.Tested.{few-records}
 use Rattle.record.proofs.Tested.{records-length}
+use Rattle.machine.specs.Machine.{fresh}
 use Rattle.machine.specs.Memories.{Assembly, machine-cells}
 use Rattle.machine.specs.Calls.{assembly-tests, assembly-run, run-assembly}
 use Rattle.machine.specs.Calls.{memory-fits, machine-tests, machine-run, run-machine}
@@ -165,4 +166,4 @@ pub keeps-length : (P : MachineCode) (m : List ℤ) (D budget : ℕ)
 keeps-length P m D budget =
     kept sum32 D (machine-cells D) P (λ left. length left ≡ length m)
     (record { saved = λ left a z h. length-set left _ z ∙ h; poked = λ left i z l h. length-set left _ z ∙ h })
-    budget m refl
+    budget 0 (fresh m) (record { placed = omega arith; held = omega arith; marked = omega arith }) refl

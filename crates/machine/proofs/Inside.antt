@@ -22,7 +22,7 @@ use Rattle.record.specs.Records.{Record, LOADI, LOAD, ADD, STORE, JMP, JMPLESS,
 use Rattle.base.specs.Ends.{Fault, fault, Result, result}
 use Rattle.machine.specs.Machine.{Memory, Machine, at, fresh, taken, pop, push}
 use Rattle.machine.specs.Machine.{held, keep, in-range, next, land, jump, act, after, due, run-at, run}
-use Rattle.machine.specs.Claims.{Inside, Keeps, Kept}
+use Rattle.machine.specs.Claims.{InBounds, Inside, Keeps, Kept}
 
 -- what an outcome that is no fault owes
 abbrev Goes : {M A : Type 0} → Outcome (Machine M) Fault A → (A → Machine M → Type 0) → Type 0
@@ -136,44 +136,49 @@ module _ {M Name : Type 0} (sum : ℤ → ℤ → Sum) (D : ℕ) (o : Memory M N
 
 module _ {M Name : Type 0} (sum : SumRule) (D : ℕ) (o : Memory M Name) (code : List (Record Name)) (Q : M → Type 0)
     (K : Keeps D o Q) where
-  abbrev Fine : Machine M → Type 0
-  Fine s = (s .position ≤ length code) × (s .size ≤ D) × Q (s .memory)
+  abbrev Bounded : ℕ → Machine M → Type 0
+  Bounded μ s = InBounds sum D o code μ s × Q (s .memory)
 
-  -- a result that leaves such a machine, its mark within the depth
+  -- a result that leaves such a machine
   abbrev Left : Result (Machine M) → Type 0
-  Left r = Fine (r .leaves) × (r .mark ≤ D)
+  Left r = Bounded (r .mark) (r .leaves)
 
-  run-fine : (n : ℕ) (r : Option (Record Name)) (μ : ℕ) (s : Machine M) → due sum D o code s ≡ r → Fine s → μ ≤ D
+  run-bounded : (n : ℕ) (r : Option (Record Name)) (μ : ℕ) (s : Machine M) → due sum D o code s ≡ r → Bounded μ s
       → Left (run-at sum D o code n r μ s)
   unfolding run-at
-  run-fine zero none μ s e h l = (h, l)
-  run-fine (suc n) none μ s e h l = (h, l)
-  run-fine zero (some r) μ s e h l = (h, l)
-  run-fine (suc n) (some r) μ s e h l =
+  run-bounded zero none μ s e h = h
+  run-bounded (suc n) none μ s e h = h
+  run-bounded zero (some r) μ s e h = h
+  run-bounded (suc n) (some r) μ s e h =
       pick (act (sum n) D o (length code) r s)
       (act-goes (sum n) D o (length code) Q K r (s .position) (s .size) (s .memory)
-      (some-below code (s .position) r e) (h .1) (h .2))
-      (λ s′ f. run-fine n (due sum D o code s′) (max μ (s′ .size)) s′ refl f (omega (arith, f .1)))
+      (some-below code (s .position) r e) (omega (arith, h .0 .held, h .0 .marked)) (h .1))
+      (λ s′. run-bounded n (due sum D o code s′) (max μ (s′ .size)) s′ refl)
     where
       again : Machine M → Result (Machine M)
       again s′ = run-at sum D o code n (due sum D o code s′) (max μ (s′ .size)) s′
 
-      pick : (x : Outcome (Machine M) Fault (Unit {0})) → Goes x (λ _. Fine)
-          → ((s′ : Machine M) → Fine s′ → Left (again s′))
+      pick : (x : Outcome (Machine M) Fault (Unit {0})) → Goes x (λ _. Within (sum n) D o (length code) Q K)
+          → ((s′ : Machine M) → Bounded (max μ (s′ .size)) s′ → Left (again s′))
           → Left (after x again (λ e. result (fault e) n μ s))
-      pick (ok a s′) g i = unfold after in i s′ g
-      pick (ended e) g i = unfold after in (h, l)
+      pick (ok a s′) g i = unfold after in
+          i s′ (record { placed = g .0; held = omega arith; marked = omega (arith, g .1, h .0 .marked) }, g .2)
+      pick (ended e) g i = unfold after in h
 
-  run-keeps : (n : ℕ) (m : M) → Q m → Left (run sum D o code n 0 (fresh m))
+  keeps : (n μ : ℕ) (s : Machine M) → Bounded μ s → Left (run sum D o code n μ s)
   unfolding run
-  run-keeps n m q =
-      run-fine n (due sum D o code (fresh m)) 0 (fresh m) refl (omega arith, omega arith, q) (omega arith)
+  keeps n μ s = run-bounded n (due sum D o code s) μ s refl
 
   pub kept : Kept sum D o code Q
-  kept n m q = run-keeps n m q .0 .2
+  kept n μ s h q = keeps n μ s (h, q) .1
 
 pub inside : {M Name : Type 0} (sum : SumRule) (D : ℕ) (o : Memory M Name) (code : List (Record Name))
     → Inside sum D o code
-inside sum D o code n m =
-    let x = run-keeps sum D o code (λ _. Unit {0}) (record { saved = λ m x z q. tt; poked = λ m i z l q. tt }) n m tt in
-    (x .0 .0, x .0 .1, x .1)
+inside sum D o code n μ s h =
+    keeps sum D o code (λ _. Unit {0}) (record { saved = λ m x z q. tt; poked = λ m i z l q. tt }) n μ s (h, tt) .0
+
+-- from a fresh machine
+pub fresh-inside : {M Name : Type 0} (sum : SumRule) (D : ℕ) (o : Memory M Name) (code : List (Record Name)) (n : ℕ) (m : M)
+    → let r = run sum D o code n 0 (fresh m) in InBounds sum D o code (r .mark) (r .leaves)
+fresh-inside sum D o code n m =
+    inside sum D o code n 0 (fresh m) (record { placed = omega arith; held = omega arith; marked = omega arith })

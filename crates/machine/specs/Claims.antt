@@ -12,7 +12,7 @@ use Rattle.base.specs.Acts.{ok, ended}
 use Rattle.word.specs.Sums.{SumRule}
 use Rattle.record.specs.Records.{Record}
 use Rattle.base.specs.Ends.{End, fault, Result, result}
-use Rattle.machine.specs.Machine.{Memory, Machine, fresh, act, run}
+use Rattle.machine.specs.Machine.{Memory, Machine, act, run}
 
 -- ---- Runs as steps
 
@@ -46,11 +46,17 @@ module _ {M Name : Type 0} (sum : SumRule) (D : ℕ) (o : Memory M Name) (code :
   abbrev pub Highest : Type 0
   Highest = (n mark : ℕ) (s : Machine M) → s .size ≤ mark → Most n mark s (run sum D o code n mark s .mark)
 
-  -- The machine that a run leaves, at any budget and whatever the code, stands at most at its end position and has
-  -- at most D values on its stack; nor did it ever have more.
+  -- A machine that stands at most at its code's end position, with at most as many values on its stack as its mark, and that
+  -- at most D: as a fresh one does, with mark 0
+  pub record InBounds (mark : ℕ) (s : Machine M) : Type 0 where
+    pub placed : s .position ≤ length code
+    pub held : s .size ≤ mark
+    pub marked : mark ≤ D
+
+  -- A run from such a machine, at any budget and whatever the code, leaves such a machine.
   abbrev pub Inside : Type 0
-  Inside = (n : ℕ) (m : M) → let r = run sum D o code n 0 (fresh m) in
-      (r .leaves .position ≤ length code) × (r .leaves .size ≤ D) × (r .mark ≤ D)
+  Inside = (n mark : ℕ) (s : Machine M) → InBounds mark s
+      → let r = run sum D o code n mark s in InBounds (r .mark) (r .leaves)
 
 -- ---- Frames of laws, from which other claims are proved. No reader has to believe them
 
@@ -77,4 +83,5 @@ pub record Keeps {M Name : Type 0} (D : ℕ) (o : Memory M Name) (Q : M → Type
 
 -- A run keeps it too.
 abbrev pub Kept : {M Name : Type 0} → SumRule → (D : ℕ) → Memory M Name → List (Record Name) → (M → Type 0) → Type 0
-Kept {M = M} sum D o code Q = (n : ℕ) (m : M) → Q m → Q (run sum D o code n 0 (fresh m) .leaves .memory)
+Kept {M = M} sum D o code Q = (n mark : ℕ) (s : Machine M) → InBounds sum D o code mark s
+    → Q (s .memory) → Q (run sum D o code n mark s .leaves .memory)
