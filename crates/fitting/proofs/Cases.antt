@@ -22,7 +22,7 @@ use Rattle.record.specs.Records.{rename}
 use Rattle.record.specs.Bytes.{first-byte, operand as record-operand, code-bytes, operation, name-of, option-map}
 use Rattle.record.specs.Bytes.{is-zero, record-of, in-front, records-from}
 use Rattle.machine.specs.Machine.{taken, pop, push, held, keep, in-range, next, land, jump, act, after, run-at, run}
-use Rattle.machine.specs.Calls.{machine-tests, run-machine}
+use Rattle.machine.specs.Calls.{machine-tests, tell, state-tests, go-on, run-machine, ran-of}
 use Rattle.compile.specs.Compilation.{acomp, bcomp, ccomp}
 use Rattle.compile.specs.Table.{member, once, mentions, addr-of, entries, times, once-each, in-order}
 use Rattle.compile.specs.Calls.{compile-tests, compile}
@@ -47,7 +47,8 @@ unfolding cases measured by-rules by-machine zeros
     expression-names condition-names names how-many
     charge tick raise lower cell assign total add value truth loop exec end-of result-of source-tests run-source
     rename first-byte record-operand code-bytes operation name-of option-map is-zero record-of in-front records-from
-    taken pop push held keep in-range next land jump act after run-at run machine-tests run-machine
+    taken pop push held keep in-range next land jump act after run-at run
+    machine-tests tell state-tests go-on run-machine ran-of
     acomp bcomp ccomp member once mentions addr-of entries times once-each compile-tests compile
     put fill got read-back table-tests pod-tests load read-back-call call answered fit four-calls
 profiles = (refl, refl)
@@ -85,14 +86,16 @@ read-back-declines = record {
 pub previews-of-B : PreviewsOfB
 unfolding and-then settle previewed then′ give number-of number-at limited sum32 within target
     operation name-of option-map is-zero record-of in-front records-from
-    taken pop push held keep in-range next land jump act after run-at run machine-tests run-machine
+    taken pop push held keep in-range next land jump act after run-at run
+    machine-tests tell state-tests go-on run-machine ran-of
     times once-each put fill got read-back table-tests pod-tests read-back-call preview-tests preview-machine
 previews-of-B = refl
 
 pub preview-declines : PreviewDeclines
 unfolding zeros and-then settle previewed then′ give number-of number-at limited sum32 within target
     operation name-of option-map is-zero record-of in-front records-from
-    taken pop push held keep in-range next land jump act after run-at run machine-tests run-machine
+    taken pop push held keep in-range next land jump act after run-at run
+    machine-tests tell state-tests go-on run-machine ran-of
     times once-each got read-back table-tests pod-tests read-back-call preview-tests preview-machine
 preview-declines = record {
   nine = refl;
@@ -115,7 +118,8 @@ preview-declines = record {
 pub paired-ends : PairedEnds
 unfolding and-then settle then′ give number-of number-at limited sum32 within target
     operation name-of option-map is-zero record-of in-front records-from member once mentions in-order
-    taken pop push held keep in-range next land jump act after run-at run machine-tests run-machine
+    taken pop push held keep in-range next land jump act after run-at run
+    machine-tests tell state-tests go-on run-machine ran-of
     times once-each put fill got read-back table-tests pod-tests load read-back-call
     call answered paired-tests run-paired
 paired-ends = record {
@@ -130,7 +134,8 @@ paired-ends = record {
 pub paired-of-B : PairedOfB
 unfolding and-then settle then′ give number-of number-at limited sum32 within target
     operation name-of option-map is-zero record-of in-front records-from member once mentions in-order
-    taken pop push held keep in-range next land jump act after run-at run machine-tests run-machine
+    taken pop push held keep in-range next land jump act after run-at run
+    machine-tests tell state-tests go-on run-machine ran-of
     times once-each put fill got read-back table-tests pod-tests load read-back-call
     call answered paired-tests run-paired
 paired-of-B = record { under-3 = refl; under-4 = refl }
@@ -138,7 +143,8 @@ paired-of-B = record { under-3 = refl; under-4 = refl }
 pub paired-declines : PairedDeclines
 unfolding and-then settle then′ give number-of number-at limited sum32 within target
     operation name-of option-map is-zero record-of in-front records-from member once mentions in-order
-    taken pop push held keep in-range next land jump act after run-at run machine-tests run-machine
+    taken pop push held keep in-range next land jump act after run-at run
+    machine-tests tell state-tests go-on run-machine ran-of
     times once-each put fill got read-back table-tests pod-tests load read-back-call
     call answered paired-tests run-paired
 paired-declines = record {

@@ -7,5 +7,6 @@ pub mod Calls
 pub mod Rows
 pub mod Demand3
 pub mod Paired
+pub mod Pieces
 pub mod Previews
 pub mod Respelling

@@ -13,7 +13,8 @@ use Rattle.text.proofs.Accepted.{accepted}
 use Rattle.source.specs.Rules.{Store, run-rules}
 use Rattle.source.specs.Calls.{source-tests, run-source, preview-source}
 use Rattle.source.proofs.Calls.{source-runs}
-use Rattle.machine.specs.Calls.{machine-tests, run-machine}
+use Rattle.machine.specs.Calls.{machine-tests, run-machine, told}
+use Rattle.machine.proofs.Calls.{fresh-run}
 use Rattle.compile.specs.Table.{named-in}
 use Rattle.compile.specs.Calls.{Compiled}
 use Rattle.fitting.specs.Calls.{table-tests, pod-tests, read-back-call, preview-tests, preview-machine}
@@ -44,7 +45,7 @@ source-previewed text store budget ran s = (
 module _ (code : List ℕ) (memory : List ℤ) (D : ℕ) (t : List ℕ) (store : Store) (budget : ℕ) (ran : Ran) (s : Store)
   where
     abbrev Made : Type 0
-    Made = (m : List ℤ) × (run-machine code memory D (named-in t) budget ≡ (gives ran, m))
+    Made = (m : List ℤ) × (told (run-machine code memory D (named-in t) budget) ≡ (gives ran, m))
         × (read-back-call t m D store ≡ (gives (named-in t), s))
 
     made : preview-machine code memory D t store budget ≡ (gives ran, s) → Made
@@ -52,14 +53,15 @@ module _ (code : List ℕ) (memory : List ℤ) (D : ℕ) (t : List ℕ) (store :
     made e =
         let g = preview-gave (preview-tests code memory D t store) _ e in
         let p = preview-passed code memory D t store (g .1) in
-        let run = run-machine code memory D (named-in t) budget in
+        let run = told (run-machine code memory D (named-in t) budget) in
         let back = reads-back code memory D t store p budget refl in
         (run .1, (λ i. (g .2 i .0, run .1)), (λ i. (sym back i .0, g .2 i .1)))
 
     previewed-by : Made → preview-machine code memory D t store budget ≡ (gives ran, s)
-    unfolding run-machine read-back-call pod-tests
+    unfolding read-back-call pod-tests
     previewed-by (m, runs, reads) =
-        let g = gave (machine-tests code memory D (named-in t)) _ _ memory (sym runs) in
+        let g = gave (machine-tests code memory D (named-in t)) _ _ memory
+        (sym runs ∙ fresh-run code memory D (named-in t) budget) in
         let h = gave (pod-tests t store D m) _ _ store (sym reads) in
         let x = needed (table-tests t store) _ (h .passed) in
         let p : PreviewPassed code memory D t store (g .value) =

@@ -2,6 +2,7 @@ pub mod Loading
 pub mod Calls
 pub mod Rows
 pub mod Paired
+pub mod Pieces
 pub mod Simulation
 pub mod Demand3
 pub mod Previews

@@ -17,7 +17,7 @@ use Rattle.text.specs.Sizes.{depth}
 use Rattle.text.specs.declared.Sizes.{Sizes}
 use Rattle.record.specs.Records.{Record, MachineCode}
 use Rattle.machine.specs.Machine.{Memory, Machine, at, fresh, act, run}
-use Rattle.machine.specs.Calls.{run-machine}
+use Rattle.machine.specs.Calls.{run-machine, told}
 use Rattle.compile.specs.Compilation.{ccomp}
 use Rattle.compile.specs.Table.{to-m-prog}
 use Rattle.compile.specs.Calls.{Compiled, compile}
@@ -85,7 +85,7 @@ pub record RunsSafely (code : List ℕ) (memory : List ℤ) (D n budget : ℕ) :
   pub h : ℕ → ℕ
   pub heights : Heights D records h
   pub ran : Ran
-  pub given : run-machine code memory D n budget .0 ≡ gives ran
+  pub given : told (run-machine code memory D n budget) .0 ≡ gives ran
   pub safely : SafeRun records h (ran .end) (ran .mark)
 
 abbrev pub Inspects : Type 0

@@ -1,5 +1,5 @@
--- Small codes come to their ends, and the calls decline, by computation (Cases: EndsCome, AssemblyDeclines,
--- MachineDeclines).
+-- Small codes come to their ends, in one run and in pieces, and the calls decline, by computation (Cases: EndsCome,
+-- AssemblyDeclines, MachineDeclines, Pauses, StateDeclines).
 use mathlib.Core.Path.{refl}
 use Rattle.base.specs.Acts.{then′}
 use Rattle.base.specs.Answers.{and-then, settle}
@@ -9,8 +9,10 @@ use Rattle.word.specs.Targets.{within, target}
 use Rattle.record.specs.Bytes.{operation, name-of, option-map, is-zero, record-of, in-front, records-from}
 use Rattle.machine.specs.Machine.{taken, pop, push, held, keep, in-range, next, land, jump, act, after, run-at}
 use Rattle.machine.specs.Machine.{run}
-use Rattle.machine.specs.Calls.{assembly-tests, run-assembly, machine-tests, run-machine}
-use Rattle.machine.specs.Cases.{rows, EndsCome, AssemblyDeclines, MachineDeclines}
+use Rattle.machine.specs.Calls.{assembly-tests, run-assembly, machine-tests, tell, state-tests, go-on, run-machine}
+use Rattle.machine.specs.Calls.{ran-of}
+use Rattle.machine.specs.Pieces.{after-piece, in-pieces}
+use Rattle.machine.specs.Cases.{rows, EndsCome, AssemblyDeclines, MachineDeclines, Pauses, StateDeclines}
 
 pub ends-come : EndsCome
 unfolding rows then′ limited sum32 within target
@@ -36,7 +38,8 @@ assembly-declines = record {
 
 pub machine-declines : MachineDeclines
 unfolding and-then settle number-of number-at
-    operation name-of option-map is-zero record-of in-front records-from run-at run machine-tests run-machine
+    operation name-of option-map is-zero record-of in-front records-from run-at run machine-tests state-tests tell go-on
+    run-machine ran-of
 machine-declines = record {
   nine = refl;
   ten = refl;
@@ -52,4 +55,40 @@ machine-declines = record {
   ten-eleven = refl;
   ten-eleven-n = refl;
   eleven-alone = refl;
+}
+
+pub pauses : Pauses
+unfolding then′ and-then settle number-of number-at limited sum32 within target
+    operation name-of option-map is-zero record-of in-front records-from
+    taken pop push held keep in-range next land jump act after run-at run
+    machine-tests tell state-tests go-on run-machine after-piece in-pieces
+pauses = record {
+  first = refl;
+  second = refl;
+  third = refl;
+  as-list = refl;
+  with-zeros = refl;
+  stops-early = refl;
+  nothing-done = refl;
+  at-end = refl;
+  at-end-still = refl;
+  mark-kept = refl;
+  made-up = refl;
+  longest = refl;
+}
+
+pub state-declines : StateDeclines
+unfolding and-then settle number-of number-at
+    operation name-of option-map is-zero record-of in-front records-from run-at run machine-tests tell state-tests go-on
+state-declines = record {
+  fifteen-position = refl;
+  fifteen-size = refl;
+  fifteen-mark = refl;
+  fifteen-count = refl;
+  fifteen-wrapped = refl;
+  not-fifteen = refl;
+  not-fifteen-count = refl;
+  nine-fifteen = refl;
+  ten-fifteen = refl;
+  eleven-fifteen = refl;
 }

@@ -1,17 +1,19 @@
--- The calls `run_assembly` and `run_machine` (document 01, "Executors"). Both "run from a fresh machine".
-use Prim.Native.Nat.{ℕ, _+_}
+-- The calls `run_assembly` and `run_machine` (document 01, "Executors"), which "run from a fresh machine", and `go_on`
+-- (document 02, W7), which runs on from the state of a paused run.
+use Prim.Native.Nat.{ℕ, _+_, _-_}
 use mathlib.Core.Bool.{Bool, _&&_}
 use mathlib.Core.List.{List}
 use lib.Dec.{eqb, leb}
 use lib.IntN.{ℤ}
 use lib.ListN.{length}
 use Rattle.base.specs.Answers.{Answer, gives, unless_refuse_at_else_, and-then, settle}
-use Rattle.base.specs.Ends.{Result, Ran, report}
+use Rattle.base.specs.Ends.{End, fault, Result, Ran, ran, report}
 use Rattle.word.specs.Sums.{sum32}
 use Rattle.record.specs.Records.{AssemblyCode, MachineCode}
 use Rattle.record.specs.Bytes.{assembly-kind, machine-kind, whole-records, records-of}
-use Rattle.machine.specs.Machine.{Machine, fresh, run}
+use Rattle.machine.specs.Machine.{Machine, at as machine-at, fresh, run}
 use Rattle.machine.specs.Memories.{Assembly, assembly, machine-cells}
+use Rattle.machine.specs.declared.State.{State}
 
 -- ---- Assembly
 
@@ -48,11 +50,67 @@ machine-tests code memory D n =
     unless memory-fits D n memory refuse 11 at 0 else
     gives P)
 
-abbrev pub machine-run : MachineCode → List ℤ → ℕ → ℕ → Result (Machine (List ℤ))
-machine-run P memory D budget = run sum32 D (machine-cells D) P budget 0 (fresh memory)
+-- ---- Pausing, and going on
 
--- The end, the count and the mark; the memory as it is left
-unfoldable pub run-machine : List ℕ → List ℤ → ℕ → ℕ → ℕ → Answer Ran × List ℤ
-run-machine code memory D n budget =
-    settle (machine-tests code memory D n)
-    (λ P. report budget (machine-run P memory D budget)) (λ P. machine-run P memory D budget .leaves .memory) memory
+-- "A fresh machine has position 0, stack empty, count 0"; its stack has held nothing
+abbrev pub fresh-state : State
+fresh-state = record { position = 0; size = 0; count = 0; mark = 0 }
+
+-- The run from a state. "Each budget counts from the pause"
+abbrev pub run-from : MachineCode → List ℤ → ℕ → State → ℕ → Result (Machine (List ℤ))
+run-from P memory D s budget =
+    run sum32 D (machine-cells D) P budget (s .mark) (machine-at (s .position) (s .size) memory)
+
+abbrev pub machine-run : MachineCode → List ℤ → ℕ → ℕ → Result (Machine (List ℤ))
+machine-run P memory D budget = run-from P memory D fresh-state budget
+
+-- What a call tells of it: the end, the count and the mark, or the state of a spent run
+pub data Progress : Type 0 where
+  finished : Ran → Progress
+  paused : State → Progress
+
+-- "A spent machine run hands out its position, stack size, count and depth mark"
+unfoldable pub tell : End → ℕ → ℕ → Machine (List ℤ) → Progress
+tell End.done k mark s = finished (ran End.done k mark)
+tell End.spent k mark s = paused (record { position = s .position; size = s .size; count = k; mark = mark })
+tell (fault e) k mark s = finished (ran (fault e) k mark)
+
+-- The count goes on from the state's
+abbrev pub progress : State → ℕ → Result (Machine (List ℤ)) → Progress
+progress s budget r = tell (r .end) (s .count + (budget - r .left)) (r .mark) (r .leaves)
+
+-- 15: "a position past the end, a stack size above the depth mark, a depth mark above D, or a count that with the budget
+-- passes 4294967295", which is one above what the budget leaves of it
+abbrev pub state-fits : State → ℕ → ℕ → ℕ → Bool
+state-fits s last D budget =
+    leb (s .position) last && (leb (s .size) (s .mark) && (leb (s .mark) D && leb (s .count) (4294967295 - budget)))
+
+-- Refusals: 9, 10, 11; and "15, after 11"
+unfoldable pub state-tests : List ℕ → List ℤ → ℕ → ℕ → State → ℕ → Answer MachineCode
+state-tests code memory D n s budget =
+    and-then (machine-tests code memory D n) (λ P.
+    unless state-fits s (length P) D budget refuse 15 at 0 else
+    gives P)
+
+-- What the run tells; the memory as it is left
+unfoldable pub go-on : List ℕ → List ℤ → ℕ → ℕ → State → ℕ → Answer Progress × List ℤ
+go-on code memory D n s budget =
+    settle (state-tests code memory D n s budget)
+    (λ P. progress s budget (run-from P memory D s budget)) (λ P. run-from P memory D s budget .leaves .memory) memory
+
+-- From a fresh machine, whose state passes 15's test under every budget
+unfoldable pub run-machine : List ℕ → List ℤ → ℕ → ℕ → ℕ → Answer Progress × List ℤ
+run-machine code memory D n budget = go-on code memory D n fresh-state budget
+
+-- ---- A run's end, count and mark alone
+
+unfoldable pub ran-of : Progress → Ran
+ran-of (finished r) = r
+ran-of (paused s) = ran End.spent (s .count) (s .mark)
+
+abbrev pub tells : Answer Progress → Answer Ran
+tells x = and-then x (λ p. gives (ran-of p))
+
+-- of a call, beside the memory as it is left
+abbrev pub told : Answer Progress × List ℤ → Answer Ran × List ℤ
+told x = (tells (x .0), x .1)

@@ -1,5 +1,6 @@
 -- Small codes that come to each end, on both memories (document 01, "Executors"). They name no variable and no address,
--- so the same rows serve assembly and machine code. Then where the two calls decline ("When a call declines").
+-- so the same rows serve assembly and machine code. Then where the calls decline ("When a call declines"), and runs in pieces
+-- (document 02, W7).
 use mathlib.Core.Path.{_≡_}
 use Prim.Native.Nat.{ℕ, _+_, _-_}
 use mathlib.Core.List.{List, [], _∷_, _++_, map}
@@ -14,7 +15,9 @@ use Rattle.record.specs.declared.Variable.{Variable}
 use Rattle.record.specs.declared.Address.{Address}
 use Rattle.machine.specs.Machine.{Machine, fresh, run}
 use Rattle.machine.specs.Memories.{Assembly, assembly, machine-cells}
-use Rattle.machine.specs.Calls.{run-assembly, run-machine}
+use Rattle.machine.specs.Calls.{run-assembly, fresh-state, Progress, finished, paused, go-on, run-machine, told}
+use Rattle.machine.specs.Pieces.{in-pieces}
+use Rattle.machine.specs.declared.State.{State}
 
 -- A code, D and a budget; the end, the count and the mark
 pub record Row (Name : Type 0) : Type 0 where
@@ -118,10 +121,90 @@ pub record MachineDeclines : Type 0 where
   pub eleven-longer : run-machine (five 0x50 0) (memory 5) 2 1 9 ≡ (refused 11 0, memory 5)
   pub eleven-D : run-machine (five 0x50 0) (memory 67) 65 1 9 ≡ (refused 11 0, memory 67)
   pub eleven-n : run-machine (five 0x50 0) (memory 68) 2 65 9 ≡ (refused 11 0, memory 68)
-  pub not-eleven : run-machine [] (memory 129) 64 64 9 ≡ (done-at-0, memory 129)
+  pub not-eleven : told (run-machine [] (memory 129) 64 64 9) ≡ (done-at-0, memory 129)
   -- 9, and 10: `52 01 00 00 00` and a byte more
   pub nine-ten : run-machine (five 0x52 1 ++ (0x50 ∷ [])) (memory 4) 2 1 9 ≡ (refused 9 0, memory 4)
   -- 10, and 11: `52 01 00 00 00`, and 3 cells; the address 66, and n 65, by which the address 65 is not too high
   pub ten-eleven : run-machine (five 0x52 1) (memory 3) 2 1 9 ≡ (refused 10 0, memory 3)
   pub ten-eleven-n : run-machine (five 0x51 66) (memory 68) 2 65 9 ≡ (refused 10 0, memory 68)
   pub eleven-alone : run-machine (five 0x51 65) (memory 68) 2 65 9 ≡ (refused 11 0, memory 68)
+
+-- ---- In pieces (document 02, W7)
+
+abbrev pub state : ℕ → ℕ → ℕ → ℕ → State
+state position size count mark = record { position = position; size = size; count = count; mark = mark }
+
+-- MLOADI 5, MLOADI 7, MADD, with two stack cells and no variable
+abbrev pub five-and-seven : List ℕ
+five-and-seven = five 0x50 5 ++ (five 0x50 7 ++ five 0x52 0)
+
+-- its memory at first; with 5 on the stack; with 5 and 7; with their sum, above which the 7 that was taken off stays
+abbrev pub at-first : List ℤ
+at-first = pos 8 ∷ pos 8 ∷ pos 8 ∷ []
+
+abbrev pub with-five : List ℤ
+with-five = pos 8 ∷ pos 5 ∷ pos 8 ∷ []
+
+abbrev pub with-both : List ℤ
+with-both = pos 7 ∷ pos 5 ∷ pos 8 ∷ []
+
+abbrev pub with-sum : List ℤ
+with-sum = pos 7 ∷ pos 12 ∷ pos 8 ∷ []
+
+-- MJMP −1: a jump to itself
+abbrev pub forever : List ℕ
+forever = 0x54 ∷ replicate 4 0xff
+
+-- What a call gives and leaves
+abbrev pub Gives : Answer Progress × List ℤ → Progress → List ℤ → Type 0
+Gives call told left = call ≡ (gives told, left)
+
+abbrev pub done-at : ℕ → ℕ → Progress
+done-at count mark = finished (ran done count mark)
+
+pub record Pauses : Type 0 where
+  -- a run with budget 1, gone on with 1, gone on with 9
+  pub first : Gives (run-machine five-and-seven at-first 2 0 1) (paused (state 1 1 1 1)) with-five
+  pub second : Gives (go-on five-and-seven with-five 2 0 (state 1 1 1 1) 1) (paused (state 2 2 2 2)) with-both
+  pub third : Gives (go-on five-and-seven with-both 2 0 (state 2 2 2 2) 9) (done-at 3 2) with-sum
+  -- the three as a list of budgets; with budgets of 0 in it; one that stops early, as the first piece is done
+  pub as-list : Gives (in-pieces five-and-seven at-first 2 0 fresh-state 1 (1 ∷ 9 ∷ [])) (done-at 3 2) with-sum
+  pub with-zeros : Gives (in-pieces five-and-seven at-first 2 0 fresh-state 0 (1 ∷ 0 ∷ 1 ∷ 0 ∷ []))
+      (paused (state 2 2 2 2)) with-both
+  pub stops-early : Gives (in-pieces five-and-seven at-first 2 0 fresh-state 3 (5 ∷ 6 ∷ [])) (done-at 3 2) with-sum
+  -- a budget of 0 hands out the state that it was given
+  pub nothing-done : Gives (go-on five-and-seven with-five 2 0 (state 1 1 1 1) 0) (paused (state 1 1 1 1)) with-five
+  -- a position that equals the end is done at once, with its count, with and without budget
+  pub at-end : Gives (go-on five-and-seven with-sum 2 0 (state 3 1 7 2) 0) (done-at 7 2) with-sum
+  pub at-end-still : Gives (go-on five-and-seven with-sum 2 0 (state 3 1 7 2) 5) (done-at 7 2) with-sum
+  -- the mark goes on: one value on the stack after the pause, three before it
+  pub mark-kept : Gives (go-on (five 0x50 5) (memory 4) 3 0 (state 0 0 9 3) 4)
+      (done-at 10 3) (pos 8 ∷ pos 8 ∷ pos 5 ∷ pos 8 ∷ [])
+  -- a state that is made up: two values that nobody pushed are the cells as they are
+  pub made-up : Gives (go-on (five 0x52 0) (memory 3) 2 0 (state 0 2 0 2) 1) (done-at 1 2) (pos 8 ∷ pos 16 ∷ pos 8 ∷ [])
+  -- the highest count
+  pub longest : Gives (go-on forever (memory 1) 0 0 (state 0 0 4294967294 0) 1)
+      (paused (state 0 0 4294967295 0)) (memory 1)
+
+-- ---- Where go_on declines: 9, 10, 11, 15
+
+-- on a jump to itself, with D 2 and no variable
+abbrev pub from-state : State → ℕ → Answer Progress × List ℤ
+from-state s budget = go-on forever (memory 3) 2 0 s budget
+
+-- Number and place, and the memory as it was. Before the budget stands the state.
+pub record StateDeclines : Type 0 where
+  -- 15: a position past the end; a stack size above the mark; a mark above D; a count that with the budget passes 4294967295
+  pub fifteen-position : from-state (state 2 0 0 0) 9 ≡ (refused 15 0, memory 3)
+  pub fifteen-size : from-state (state 0 2 0 1) 9 ≡ (refused 15 0, memory 3)
+  pub fifteen-mark : from-state (state 0 0 0 3) 9 ≡ (refused 15 0, memory 3)
+  pub fifteen-count : from-state (state 0 0 4294967294 0) 2 ≡ (refused 15 0, memory 3)
+  -- in 32 bits that count and this budget would come to 1
+  pub fifteen-wrapped : from-state (state 0 0 4294967295 0) 2 ≡ (refused 15 0, memory 3)
+  -- at its limits a state is not refused
+  pub not-fifteen : from-state (state 1 2 4294967295 2) 0 ≡ (gives (done-at 4294967295 2), memory 3)
+  pub not-fifteen-count : from-state (state 0 2 4294967295 2) 0 ≡ (gives (paused (state 0 2 4294967295 2)), memory 3)
+  -- 9, and 15; 10, and 15; 11, and 15: the state is unfit in each way
+  pub nine-fifteen : go-on (replicate 4 0x50) (memory 3) 2 0 (state 9 9 4294967295 8) 9 ≡ (refused 9 0, memory 3)
+  pub ten-fifteen : go-on (five 0x52 1) (memory 3) 2 0 (state 9 9 4294967295 8) 9 ≡ (refused 10 0, memory 3)
+  pub eleven-fifteen : go-on (five 0x52 0) (memory 4) 2 0 (state 9 9 4294967295 8) 9 ≡ (refused 11 0, memory 4)

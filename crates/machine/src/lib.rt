@@ -1,1 +1,57 @@
-// The stack machine's definitions and claims stand in specs/, their proofs in proofs/; the code is machine_step's.
+// The stack machine's definitions and claims stand in specs/, their proofs in proofs/; the executors' code is machine_step's,
+// machine_run's and assembly_run's. Here are the state of a paused run, and the answer of a call that runs machine code.
+use base::End;
+use base::Refusal;
+use base::Run;
+ghost use mathlib.Core.Path.{_≡_};
+ghost use Rattle.base.specs.Code.{run-answer};
+ghost use Rattle.machine.specs.Calls.{fresh-state, tells};
+ghost use Rattle.machine.specs.Code.{progress-answer};
+
+// What a spent run hands out, and a later call takes: the position of the record due, the number of values on the stack, the
+// records counted, and the mark, the most values that there were.
+pub struct State {
+    pub position: usize,
+    pub size: usize,
+    pub count: u32,
+    pub mark: usize,
+}
+
+// The answer of a call that runs machine code: a refusal; the run's end, its count and its mark; or, where it is spent, its
+// state.
+pub enum Progress {
+    Refused(Refusal),
+    Ended { end: End, count: u32, mark: usize },
+    Paused(State),
+}
+
+impl State {
+    // Of a fresh machine: position 0, stack empty, count 0, mark 0.
+    pub fn fresh() -> Self
+        ensures { λ r. ⌜ r ≡ fresh-state ⌝ }
+    {
+        State {
+            position: 0,
+            size: 0,
+            count: 0,
+            mark: 0,
+        }
+    }
+}
+
+impl Progress {
+    // The same without the state: a run's end, its count and its mark.
+    pub fn run(self) -> Run
+        ensures { λ r. ⌜ run-answer r ≡ tells (progress-answer self) ⌝ }
+    {
+        match self {
+            Progress::Refused(refusal) => Run::Refused(refusal),
+            Progress::Ended { end, count, mark } => Run::Ended { end, count, mark },
+            Progress::Paused(state) => Run::Ended {
+                end: End::Spent,
+                count: state.count,
+                mark: state.mark,
+            },
+        }
+    }
+}

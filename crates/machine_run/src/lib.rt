@@ -1,8 +1,10 @@
-// The executor of machine code: its stack and its variables are cells of one lent slice. The call tests what it is
-// given, then steps until the run ends.
+// The executor of machine code: its stack and its variables are cells of one lent slice. A call tests what it is given,
+// then steps until the run ends, from a fresh machine or from the state of a paused run.
 use base::Count;
 use base::End;
 use base::Run;
+use machine::Progress;
+use machine::State;
 use machine_step::Halted;
 use machine_step::Machine;
 use machine_step::Step;
@@ -13,10 +15,11 @@ ghost use lib.Dec.{leb, eqb};
 ghost use lib.ListN.{length};
 ghost use Rattle.base.specs.Answers.{gives, and-then};
 ghost use Rattle.base.specs.Code.{run-answer, count-answer};
-ghost use Rattle.machine.specs.Calls.{machine-tests, run-machine};
+ghost use Rattle.machine.specs.Calls.{machine-tests, state-fits, state-tests, go-on, run-machine, told};
+ghost use Rattle.machine.specs.Code.{progress-answer};
 ghost use Rattle.machine_step.specs.Code.{halted-result};
 ghost use Rattle.machine_step.specs.Steps.{MachinePassed};
-ghost use Rattle.machine_run.specs.Runs.{Tested, Runs, Starts};
+ghost use Rattle.machine_run.specs.Runs.{Tested, TestedState, Runs, Starts};
 
 // Refusal 11's test: D and n at most 64, and D + 1 + n cells.
 fn memory_fits(length: usize, depth: u64, cells: u64) -> bool
@@ -39,21 +42,62 @@ pub fn test(code: &[u8], memory: &[i32], depth: u64, cells: u64) -> Count
     record_test::test_machine(code, cells, memory_fits(memory.len(), depth, cells))
 }
 
+// Refusal 15's test: a position up to the end, a stack size up to the mark, a mark up to D, and a count that with the budget
+// stays within 32 bits.
+fn state_fits(state: State, last: usize, depth: u64, budget: u32) -> bool
+    ensures { λ r. ⌜ r ≡ state-fits state last depth budget ⌝ }
+{
+    if last < state.position {
+        return false;
+    }
+    if state.mark < state.size {
+        return false;
+    }
+    if depth < (state.mark as u64) {
+        return false;
+    }
+    (state.count as u64) + (budget as u64) <= Machine::GREATEST_COUNT
+}
+
+// The tests of a call from a state, in the document's order: refusals 9, 10, 11, 15. Gives the number of records.
+pub fn test_state(
+    code: &[u8],
+    memory: &[i32],
+    depth: u64,
+    cells: u64,
+    state: State,
+    budget: u32,
+) -> Count
+    ensures { λ r. ⌜ count-answer r
+        ≡ and-then (state-tests (now (code .entry)) (now (memory .entry)) depth cells state budget)
+        (λ P. gives (length P)) ⌝ }
+{
+    match test(code, memory, depth, cells) {
+        Count::Refused(refusal) => Count::Refused(refusal),
+        Count::Gives(last) => {
+            if !state_fits(state, last, depth, budget) {
+                return Count::decline(15, 0);
+            }
+            Count::Gives(last)
+        }
+    }
+}
+
 // Steps until the run ends, from a machine in code that ends at position `last`, over memory whose first `depth` cells
-// are its stack's.
+// are its stack's. It is spent at the count `limit`.
 fn finish(
     first: Machine,
     code: &[u8],
     memory: &mut [i32],
     depth: usize,
     last: usize,
-    budget: u32,
+    limit: u32,
 ) -> Halted
-    requires { ⌜ Starts first depth last budget ⌝ }
+    requires { ⌜ Starts first depth last limit ⌝ }
     requires { ⌜ MachinePassed depth last (now code) (now memory) ⌝ }
-    ensures { λ r. ⌜ Runs first depth last (now (code .entry)) (now (memory .entry)) budget
-        (halted-result budget r (now (memory .exit))) ⌝ }
-    ensures { λ r. ⌜ r .machine .count ≤ budget ⌝ }
+    ensures { λ r. ⌜ Runs first depth last (now (code .entry)) (now (memory .entry)) limit
+        (halted-result limit r (now (memory .exit))) ⌝ }
+    ensures { λ r. ⌜ r .machine .count ≤ limit ⌝ }
 {
     let mut machine = first;
     loop {
@@ -63,7 +107,7 @@ fn finish(
                 machine,
             };
         }
-        if machine.count == budget {
+        if machine.count == limit {
             return Halted {
                 end: End::Spent,
                 machine,
@@ -80,24 +124,59 @@ fn finish(
     }
 }
 
+// Runs the `last` records of code that passed the tests, from a state that passed them.
+fn resume(
+    code: &[u8],
+    memory: &mut [i32],
+    depth: usize,
+    last: usize,
+    state: State,
+    budget: u32,
+) -> Progress
+    requires { ⌜ ((n : ℕ) × TestedState (now code) (now memory) depth n state budget last) ⌝ }
+    ensures { λ r. ⌜ ((n : ℕ) → TestedState (now (code .entry)) (now (memory .entry)) depth n state budget last
+        → (progress-answer r, now (memory .exit))
+        ≡ go-on (now (code .entry)) (now (memory .entry)) depth n state budget) ⌝ }
+{
+    let limit = state.count + budget;
+    finish(Machine::resumed(state), code, memory, depth, last, limit).progress()
+}
+
 // Runs the `last` records of code that passed the tests, from a fresh machine.
 pub fn run_tested(code: &[u8], memory: &mut [i32], depth: usize, last: usize, budget: u32) -> Run
     requires { ⌜ ((n : ℕ) × Tested (now code) (now memory) depth n last) ⌝ }
     ensures { λ r. ⌜ ((n : ℕ) → Tested (now (code .entry)) (now (memory .entry)) depth n last
         → (run-answer r, now (memory .exit))
-        ≡ run-machine (now (code .entry)) (now (memory .entry)) depth n budget) ⌝ }
+        ≡ told (run-machine (now (code .entry)) (now (memory .entry)) depth n budget)) ⌝ }
 {
-    finish(Machine::fresh(), code, memory, depth, last, budget).answer()
+    resume(code, memory, depth, last, State::fresh(), budget).run()
+}
+
+// Runs machine code on from the state of a paused run, over the memory as that run left it, with D = `depth` stack cells and
+// n = `cells` addresses; the budget counts from the pause. A state that is made up and fits is run as well. Refuses 9, 10, 11,
+// 15, and then leaves the memory untouched.
+pub fn go_on(
+    code: &[u8],
+    memory: &mut [i32],
+    depth: u64,
+    cells: u64,
+    state: State,
+    budget: u32,
+) -> Progress
+    ensures { λ r. ⌜ (progress-answer r, now (memory .exit))
+        ≡ go-on (now (code .entry)) (now (memory .entry)) depth cells state budget ⌝ }
+{
+    match test_state(code, memory, depth, cells, state, budget) {
+        Count::Refused(refusal) => Progress::Refused(refusal),
+        Count::Gives(last) => resume(code, memory, depth as usize, last, state, budget),
+    }
 }
 
 // Runs machine code from a fresh machine, over memory with D = `depth` stack cells and n = `cells` addresses.
 // Refuses 9, 10, 11, and then leaves the memory untouched.
-pub fn run_machine(code: &[u8], memory: &mut [i32], depth: u64, cells: u64, budget: u32) -> Run
-    ensures { λ r. ⌜ (run-answer r, now (memory .exit))
+pub fn run_machine(code: &[u8], memory: &mut [i32], depth: u64, cells: u64, budget: u32) -> Progress
+    ensures { λ r. ⌜ (progress-answer r, now (memory .exit))
         ≡ run-machine (now (code .entry)) (now (memory .entry)) depth cells budget ⌝ }
 {
-    match test(code, memory, depth, cells) {
-        Count::Refused(refusal) => Run::Refused(refusal),
-        Count::Gives(last) => run_tested(code, memory, depth as usize, last, budget),
-    }
+    go_on(code, memory, depth, cells, State::fresh(), budget)
 }

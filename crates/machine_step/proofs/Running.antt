@@ -20,16 +20,22 @@ use Rattle.word.specs.Sums.{sum32}
 use Rattle.word.specs.Targets.{target}
 use Rattle.word.specs.declared.Target.{Target}
 use Rattle.word.specs.declared.Target.the-variants.{To, Astray}
-use Rattle.record.specs.Records.{Record}
+use Rattle.record.specs.Records.{Record, MachineCode}
 use Rattle.record.specs.Bytes.{Kind, record-at, records-from}
 use Rattle.record.proofs.Decoding.{in-list, none-due, Due, record-due}
 use Rattle.record.proofs.Tested.{records-length}
 use Rattle.machine.specs.Machine as Rules
 use Rattle.machine.specs.Machine.{Memory, at, fresh, land, jump, act, after, run}
+use Rattle.machine.specs.Memories.{machine-cells}
+use Rattle.machine.specs.Calls.{run-from, Progress, tell, progress}
+use Rattle.machine.specs.Code.{progress-answer}
+use Rattle.machine.specs.declared.State.{State}
+use Rattle.machine.specs.declared.Progress as Progressed
+use Rattle.machine.proofs.Exact.{left-most}
 use Rattle.machine.proofs.Inside.{act-within}
 use Rattle.machine.proofs.Steps.{run-done, run-spent, run-step}
-use Rattle.machine_step.specs.Code.{fresh-machine, moved, landed, machine-of, Stepped, step-of, counted, does}
-use Rattle.machine_step.specs.Code.{halted-result}
+use Rattle.machine_step.specs.Code.{fresh-machine, resumed-machine, moved, landed, machine-of}
+use Rattle.machine_step.specs.Code.{Stepped, step-of, counted, does, halted-result}
 use Rattle.machine_step.specs.declared.Machine.{Machine}
 use Rattle.machine_step.specs.declared.Step.{Step}
 use Rattle.machine_step.specs.declared.Step.the-variants.{Next, Ended}
@@ -288,3 +294,35 @@ told D o P budget m r m′ is-fresh answer within same =
         same
         ∙ ap (λ (s : Machine). run-on D o P (budget - s .count) s m) is-fresh
         ∙ ap (λ (n : ℕ). run sum32 D o P n 0 (fresh m)) (sub-zero budget)
+
+-- Of a run of machine code from a state, likewise, where the count is within its limit.
+module _ (D : ℕ) (P : MachineCode) (budget : ℕ) (s : State) (m : List ℤ) where
+  abbrev R : Result (Rules.Machine (List ℤ))
+  R = run-from P m D s budget
+
+  pub told-from : {limit : ℕ} {first : Machine} (a : Progressed.Progress) (r : Halted) (m′ : List ℤ)
+      → first ≡ resumed-machine s → limit ≡ s .count + budget
+      → progress-answer a
+      ≡ gives (tell (end-of (r .end)) (r .machine .count) (r .machine .mark) (machine-of (r .machine) m′))
+      → r .machine .count ≤ limit
+      → halted-result limit r m′ ≡ run-on D (machine-cells D) P (limit - first .count) first m
+      → _≡_ {A = Answer Progress × List ℤ} (progress-answer a, m′) (gives (progress s budget R), R .leaves .memory)
+  told-from {limit = limit} a r m′ is-first is-limit answer within same =
+      (λ i. (answer i, m′))
+      ∙ (λ i. (gives (tell (end-of (r .end)) (count i) (r .machine .mark) (machine-of (r .machine) m′)), m′))
+      ∙ (λ i. (gives (progress s budget (whole i)), whole i .leaves .memory))
+    where
+      ticks : limit - s .count ≡ budget
+      ticks = omega (arith, is-limit)
+
+      whole : halted-result limit r m′ ≡ R
+      whole =
+          same
+          ∙ ap (λ (first : Machine). run-on D (machine-cells D) P (limit - first .count) first m) is-first
+          ∙ ap (λ (n : ℕ). run sum32 D (machine-cells D) P n (s .mark) (at (s .position) (s .size) m)) ticks
+
+      count : r .machine .count ≡ s .count + (budget - (limit - r .machine .count))
+      count =
+          let left : limit - r .machine .count ≡ R .left = ap (λ (r : Result (Rules.Machine (List ℤ))). r .left) whole in
+          let most = left-most sum32 D (machine-cells D) P budget (s .mark) (at (s .position) (s .size) m) in
+          omega (arith, within, is-limit, most)

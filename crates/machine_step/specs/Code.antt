@@ -12,6 +12,7 @@ use Rattle.word.specs.declared.Target.the-variants.{To, Astray}
 use Rattle.record.specs.Records.{Record}
 use Rattle.machine.specs.Machine as Rules
 use Rattle.machine.specs.Machine.{Memory, at, act}
+use Rattle.machine.specs.declared.State.{State}
 use Rattle.machine_step.specs.declared.Machine.{Machine}
 use Rattle.machine_step.specs.declared.Step.{Step}
 use Rattle.machine_step.specs.declared.Step.the-variants.{Next, Ended}
@@ -22,6 +23,10 @@ use Rattle.machine_step.specs.declared.Halted.{Halted}
 -- "A fresh machine has position 0, stack empty, count 0", and its stack has held nothing
 abbrev pub fresh-machine : Machine
 fresh-machine = record { position = 0; count = 0; size = 0; mark = 0 }
+
+-- The machine of a state (document 02, W7)
+abbrev pub resumed-machine : State → Machine
+resumed-machine s = record { position = s .position; count = s .count; size = s .size; mark = s .mark }
 
 -- The record counted and the run ended: "count the record and change nothing else"
 abbrev pub stopped : Machine → End → Step

@@ -2,6 +2,8 @@
 // that both executors share; LOAD, STORE and the dispatch are each executor's own.
 use base::End;
 use base::Run;
+use machine::Progress;
+use machine::State;
 use machine_cells::Layout;
 use machine_cells::Limits;
 use machine_cells::save_at;
@@ -13,12 +15,18 @@ use record::Variable;
 use word::Sum;
 use word::Target;
 ghost use mathlib.Core.Path.{_≡_};
+ghost use mathlib.Core.List.{List};
 ghost use Prim.Native.Nat.{_+_, _<_, _≤_, _^_};
+ghost use lib.IntN.{ℤ};
 ghost use lib.ListN.{length};
+ghost use Rattle.base.specs.Answers.{gives};
+ghost use Rattle.base.specs.Code.{end-of};
 ghost use Rattle.word.specs.Targets.{target};
 ghost use Rattle.record.specs.Records.{LOADI, ADD, STORE};
+ghost use Rattle.machine.specs.Calls.{tell};
+ghost use Rattle.machine.specs.Code.{progress-answer};
 ghost use Rattle.machine_cells.specs.declared.Layout.the-variants.{Upward, Downward};
-ghost use Rattle.machine_step.specs.Code.{fresh-machine, stopped, moved, landed, step-of};
+ghost use Rattle.machine_step.specs.Code.{fresh-machine, resumed-machine, stopped, moved, landed, machine-of, step-of};
 ghost use Rattle.machine_step.specs.Steps.{comparing, upward, downward, OnStack, Ready};
 ghost use Rattle.machine_step.specs.Steps.{on-machine, MachineSteps, MachinePassed};
 ghost use Rattle.machine_step.specs.Steps.{assembly-of, on-assembly, AssemblySteps, AssemblyPassed};
@@ -54,6 +62,9 @@ impl Machine {
     // The most cells of machine memory: the stack's, address 0, the variables'.
     pub const MEMORY_CELLS: usize = Self::STACK_CELLS + 1 + Self::VARIABLES;
 
+    // The greatest count.
+    pub const GREATEST_COUNT: u64 = 4294967295;
+
     // A fresh machine: position 0, stack empty, count 0, mark 0.
     pub fn fresh() -> Self
         ensures { λ r. ⌜ r ≡ fresh-machine ⌝ }
@@ -63,6 +74,18 @@ impl Machine {
             count: 0,
             size: 0,
             mark: 0,
+        }
+    }
+
+    // The machine of a paused run.
+    pub fn resumed(state: State) -> Self
+        ensures { λ r. ⌜ r ≡ resumed-machine state ⌝ }
+    {
+        Self {
+            position: state.position,
+            count: state.count,
+            size: state.size,
+            mark: state.mark,
         }
     }
 
@@ -271,6 +294,28 @@ impl Halted {
             end,
             count: self.machine.count,
             mark: self.machine.mark,
+        }
+    }
+
+    // What a call on machine code tells of it: the state where the run is spent, else its end, its count and its mark.
+    pub fn progress(self) -> Progress
+        ensures { λ r. ⌜ ((memory : List ℤ) → progress-answer r
+            ≡ gives (tell (end-of (self .end)) (self .machine .count) (self .machine .mark)
+            (machine-of (self .machine) memory))) ⌝ }
+    {
+        let end = self.end;
+        match end {
+            End::Spent => Progress::Paused(State {
+                position: self.machine.position,
+                size: self.machine.size,
+                count: self.machine.count,
+                mark: self.machine.mark,
+            }),
+            _ => Progress::Ended {
+                end,
+                count: self.machine.count,
+                mark: self.machine.mark,
+            },
         }
     }
 }

@@ -4,6 +4,8 @@ use base::Count;
 use base::Preview;
 use base::Run;
 use base::copy_cells;
+use machine::Progress;
+use machine::State;
 use text::Reading;
 
 #[no_mangle]
@@ -35,6 +37,60 @@ pub extern "C" fn probe_load(table: &[u8], store: &[i32], depth: u64, memory: &m
     pod_packing::pack_count(count)
 }
 
+// The words of a state: position, stack size, count, mark, and three that are not looked at and written as 0.
+const STATE_WORDS: usize = 7;
+
+fn number(word: u32) -> usize {
+    word as usize
+}
+
+fn state_of(words: &[u32]) -> State {
+    if words.len() != STATE_WORDS {
+        return State::fresh();
+    }
+    State {
+        position: number(words[0]),
+        size: number(words[1]),
+        count: words[2],
+        mark: number(words[3]),
+    }
+}
+
+// The lowest 32 bits of a number.
+fn word(number: usize) -> u32 {
+    (number % 4294967296) as u32
+}
+
+fn put_first_four(state: State, words: &mut [u32]) {
+    if words.len() == STATE_WORDS {
+        words[0] = word(state.position);
+        words[1] = word(state.size);
+        words[2] = state.count;
+        words[3] = word(state.mark);
+    }
+}
+
+fn put_last_three(words: &mut [u32]) {
+    if words.len() == STATE_WORDS {
+        words[4] = 0;
+        words[5] = 0;
+        words[6] = 0;
+    }
+}
+
+// The answer of a call that runs machine code as one number, and its state in the lent words, if it is spent.
+fn put_progress(progress: Progress, words: &mut [u32]) -> u64 {
+    match progress {
+        Progress::Refused(_) => pod_packing::pack_run(progress.run()),
+        Progress::Ended { .. } => pod_packing::pack_run(progress.run()),
+        Progress::Paused(state) => {
+            put_first_four(state, words);
+            put_last_three(words);
+            pod_packing::pack_run(progress.run())
+        }
+    }
+}
+
 #[no_mangle]
 pub extern "C" fn probe_run_machine(
     code: &[u8],
@@ -42,9 +98,30 @@ pub extern "C" fn probe_run_machine(
     depth: u64,
     cells: u64,
     budget: u32,
+    state: &mut [u32],
 ) -> u64 {
-    let run: Run = machine_run::run_machine(code, memory, depth, cells, budget);
-    pod_packing::pack_run(run)
+    let progress: Progress = machine_run::run_machine(code, memory, depth, cells, budget);
+    put_progress(progress, state)
+}
+
+#[no_mangle]
+pub extern "C" fn probe_go_on(
+    code: &[u8],
+    memory: &mut [i32],
+    depth: u64,
+    cells: u64,
+    state: &mut [u32],
+    budget: u32,
+) -> u64 {
+    let progress: Progress = machine_run::go_on(
+        code,
+        memory,
+        depth,
+        cells,
+        state_of(state),
+        budget,
+    );
+    put_progress(progress, state)
 }
 
 #[no_mangle]

@@ -27,7 +27,7 @@ record Given (D last : ℕ) (code : List ℕ) (memory : List ℤ) : Type 0 where
 -- the course of their run
 abbrev its-course : Machine → (D last : ℕ) (code : List ℕ) (memory : List ℤ) → ℕ → Given D last code memory
     → Course (List ℤ) Address
-its-course first D last code memory budget g =
+its-course first D last code memory limit g =
     record {
       depth = D;
       form = machine-cells D;
@@ -36,23 +36,23 @@ its-course first D last code memory budget g =
       last = last;
       records = g .P;
       given = g .given;
-      budget = budget;
+      budget = limit;
       first = first;
       lent = memory;
     }
 
 -- what the loop keeps
-record Loops (first : Machine) (D last : ℕ) (code : List ℕ) (memory₀ : List ℤ) (budget : ℕ) (memory : List ℤ)
+record Loops (first : Machine) (D last : ℕ) (code : List ℕ) (memory₀ : List ℤ) (limit : ℕ) (memory : List ℤ)
     (machine : Machine) : Type 0 where
   long : length memory ≡ length memory₀
-  going : (g : Given D last code memory₀) → Going (its-course first D last code memory₀ budget g) machine memory
+  going : (g : Given D last code memory₀) → Going (its-course first D last code memory₀ limit g) machine memory
 
 abbrev Inv-loop : tie.InvT-loop
-Inv-loop code memory₀ depth last budget first memory machine =
-    Loops first depth last code memory₀ budget memory machine
+Inv-loop code memory₀ depth last limit first memory machine =
+    Loops first depth last code memory₀ limit memory machine
 
 abbrev μ-loop : tie.MeasureT-loop
-μ-loop code memory₀ depth last budget first memory machine = budget - machine .count
+μ-loop code memory₀ depth last limit first memory machine = limit - machine .count
 
 -- the records that the caller had
 abbrev had : (s : tie.Start Inv-loop μ-loop)
@@ -104,14 +104,14 @@ step-requires c κs =
     let p = s .pre .1 in
     let g = l .inv .going (had s) in
     let placed : l .machine .position ≤ s .args .last = g .placed in
-    let used : l .machine .count ≤ s .args .budget = g .used in (
+    let used : l .machine .count ≤ s .args .limit = g .used in (
       record {
         long = omega (arith, l .inv .long, p .cells-are);
         few = s .pre .0 .few;
         placed = omega (arith, not-done .if1 .left);
         held = g .held;
         marked = g .marked;
-        room = omega (arith, not-spent .if2 .left, s .fits .budget .fits);
+        room = omega (arith, not-spent .if2 .left, s .fits .limit .fits);
       },
       record {
         n = p .n;

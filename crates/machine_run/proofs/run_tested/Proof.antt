@@ -1,59 +1,29 @@
--- A run from a fresh machine, over code and memory that passed the tests: they give what `finish` asks for, and its
--- answer tells what the definition's run tells.
-use mathlib.Core.Path.{sym, subst, _∙_}
+-- A run from a fresh machine, whose state passes whatever the budget, told without a state.
 use borrow.Author.Needs.{needs}
-use Rattle.machine.specs.Memories.{machine-cells}
-use Rattle.machine.proofs.Calls.{machine-found, machine-runs}
-use Rattle.machine_step.specs.declared.Machine.{Machine}
-use Rattle.machine_step.proofs.Running.{told}
-use Rattle.machine_run.specs.Runs.{Starts}
+use Rattle.machine.proofs.Calls.{told-of, fresh-tested, from-fresh}
 use Rattle.machine_run.proofs.run_tested.Statement.{statement}
 use Rattle.machine_run.proofs.run_tested.Tie as tie
 
-finish-requires : tie.Need-finish-requires
-finish-requires c κs =
-    let made : tie.After-fresh = search in
+resume-requires : tie.Need-resume-requires
+resume-requires c κs =
     let a : tie.Start = search in
-    let s = a .args in
-    let f = machine-found (s .code .now) (s .memory .now) (s .depth) (a .pre .0) (a .pre .1) in (
-      subst
-          (λ (m : Machine). Starts m (s .depth) (s .last) (s .budget))
-          (sym (made .fresh .ensures))
-          (record {
-            few = f .code-is .few;
-            placed = search needs;
-            held = search needs;
-            marked = search needs;
-            used = search needs;
-          }),
-      record {
-        n = a .pre .0;
-        records = f .records;
-        given = f .code-is .given;
-        small = f .small;
-        whole = f .code-is .whole;
-        cells-are = f .cells-are;
-      },
+    let s = a .args in (
+      a .pre .0,
+      fresh-tested (s .code .now) (s .memory .now) (s .depth) (a .pre .0) (s .budget) (c .fresh .ensures) (a .pre .1),
     )
 
 ran : tie.Need-returns
 ran c n tested =
-    let run : tie.After-finish = search in
+    let run : tie.After-resume = search in
     let made : tie.After-fresh = search in
     let a : tie.Start = search in
     let s = a .args in
-    let f = machine-found (s .code .now) (s .memory .now) (s .depth) n tested in
-    told (s .depth) (machine-cells (s .depth)) (f .records) (s .budget) (s .memory .now) (run .finish .result) _
-    (made .fresh .ensures) (c .answer .ensures) (run .finish .ensures .1)
-    (run .finish .ensures .0 n (f .records) (f .cells-are) (f .code-is .given))
-    ∙ machine-runs (s .code .now) (s .memory .now) (s .depth) n (s .budget) (f .answer)
+    told-of (c .run .ensures)
+    (from-fresh (s .code .now) (s .memory .now) (s .depth) n (s .budget) (made .fresh .ensures)
+    (run .resume .ensures n
+    (fresh-tested (s .code .now) (s .memory .now) (s .depth) n (s .budget) (made .fresh .ensures) tested)))
 
 pub run-tested-spec : {M : Type 1} → statement M
 run-tested-spec =
     tie.close
-    (tie.spec
-    (λ c κs. search needs)
-    finish-requires
-    (λ c κs. search needs)
-    (λ c. search needs)
-    ran)
+    (tie.spec (λ c κs. search needs) resume-requires (λ c κs. search needs) (λ c. search needs) ran)

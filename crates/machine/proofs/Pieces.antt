@@ -1,0 +1,328 @@
+-- Pausing and going on (Pieces: Pieces, PiecesFrom, GoesOn, HandsOut, FifteenAlone). The idea: a run with a + b ticks is a run
+-- with a ticks, gone on with b where those were spent (`split`); the state that is handed out stands within its bounds
+-- (`inside`), so the next call takes it.
+use mathlib.Core.Path.{_≡_, refl, sym, _∙_, ap}
+use mathlib.Core.Logic.{_⊎_, inl, inr}
+use Prim.Native.Nat.{ℕ, _+_, _-_, _≤_, _<_}
+use native.Mathlib.Decide.{decLt}
+use native.Mathlib.Omega.{arith}
+use mathlib.Core.Bool.{Bool, true, false, _&&_}
+use mathlib.Core.List.{List, [], _∷_}
+use lib.Dec.{leb, eqb}
+use lib.IntN.{ℤ}
+use lib.ListN.{length}
+use borrow.Author.Tests.{le-leb, lt-leb, leb-true}
+use Rattle.base.specs.Answers.{Answer, gives, refused, unless_refuse_at_else_, and-then}
+use Rattle.base.specs.Ends.{End, fault, Result, Ran, ran}
+use Rattle.base.proofs.Answers.{gives-one}
+use Rattle.base.proofs.Settled.{not-both, Gave, gave}
+use Rattle.word.specs.Sums.{sum32}
+use Rattle.record.specs.Records.{MachineCode}
+use Rattle.record.specs.Bytes.{machine-kind, whole-records, records-of}
+use Rattle.machine.specs.Machine.{Machine, at as machine-at, run}
+use Rattle.machine.specs.Memories.{machine-cells}
+use Rattle.machine.specs.Claims.{ahead, resume, InBounds}
+use Rattle.machine.specs.Calls.{machine-tests, run-from, Progress, finished, paused, tell, progress, state-fits}
+use Rattle.machine.specs.Calls.{fresh-state, state-tests, go-on, run-machine, ran-of}
+use Rattle.machine.specs.Pieces.{after-piece, in-pieces, total, Pieces, PiecesFrom, Onward, GoesOn, HandsOut, Unfit}
+use Rattle.machine.specs.Pieces.{StateRefusals, FifteenAlone}
+use Rattle.machine.specs.declared.State.{State}
+use Rattle.machine.proofs.Splitting.{split}
+use Rattle.machine.proofs.Exact.{left-most, spent-all}
+use Rattle.machine.proofs.Inside.{inside}
+use Rattle.machine.proofs.Marks.{highest}
+use Rattle.machine.proofs.Calls.{Bounded, length-kept, StateFound, state-passed, state-passes, first-refused, bounded}
+use Rattle.machine.proofs.Calls.{state-declines, state-runs, told-ran}
+
+-- ---- Tests
+
+-- The tests of a call look at the memory's length alone
+same-tests : (code : List ℕ) (D n : ℕ) (m m′ : List ℤ) → length m ≡ length m′
+    → machine-tests code m D n ≡ machine-tests code m′ D n
+unfolding machine-tests
+same-tests code D n m m′ h = λ i.
+    unless whole-records code refuse 9 at 0 else
+    and-then (records-of (machine-kind n) code) (λ P.
+    unless leb D 64 && (leb n 64 && eqb (h i) (D + 1 + n)) refuse 11 at 0 else
+    gives P)
+
+-- ---- What a call from a state gives
+
+-- what was found by one that gives p, and the run that it is of
+module _ (code : List ℕ) (m : List ℤ) (D n : ℕ) (s : State) (budget : ℕ) (p : Progress) (m′ : List ℤ)
+    (e : go-on code m D n s budget ≡ (gives p, m′)) where
+  gone : Gave (state-tests code m D n s budget) (λ P. progress s budget (run-from P m D s budget))
+      (λ P. run-from P m D s budget .leaves .memory) p m′
+  unfolding go-on
+  gone = gave (state-tests code m D n s budget) _ _ m (sym e)
+
+  abbrev P : MachineCode
+  P = gone .value
+
+  abbrev r : Result (Machine (List ℤ))
+  r = run-from P m D s budget
+
+  found : StateFound code m D n s budget P
+  found = state-passed code m D n s budget (gone .passed)
+
+  stays : InBounds sum32 D (machine-cells D) P (r .mark) (r .leaves)
+  stays = inside sum32 D (machine-cells D) P budget (s .mark) (machine-at (s .position) (s .size) m)
+      (bounded code m D n s budget found)
+
+  as-long : length m′ ≡ length m
+  as-long = ap length (gone .leaves) ∙ length-kept P m D s budget (bounded code m D n s budget found)
+
+pub goes-on : GoesOn
+goes-on code m D n s budget p m′ e = record {
+  counts-on = omega (arith, ap (λ (x : Ran). x .count) is);
+  within-budget = omega (arith, ap (λ (x : Ran). x .count) is);
+  marks-on = omega (arith, ap (λ (x : Ran). x .mark) is, high);
+  within-depth = omega (arith, ap (λ (x : Ran). x .mark) is, stays code m D n s budget p m′ e .marked);
+}
+  where
+    res : Result (Machine (List ℤ))
+    res = r code m D n s budget p m′ e
+
+    is : ran-of p ≡ ran (res .end) (s .count + (budget - res .left)) (res .mark)
+    is = ap ran-of (gone code m D n s budget p m′ e .tells) ∙ told-ran _ _ _ _
+
+    high : s .mark ≤ res .mark
+    high = highest sum32 D (machine-cells D) (P code m D n s budget p m′ e) budget (s .mark)
+        (machine-at (s .position) (s .size) m) (found code m D n s budget p m′ e .held) .kept
+
+-- ---- A pause
+
+-- the state of a pause, or else s
+state-or : State → Progress → State
+state-or s (paused t) = t
+state-or s (finished r) = s
+
+-- what the run that paused left
+record Paused (s : State) (e : End) (k mark : ℕ) (m : Machine (List ℤ)) : Type 0 where
+  spent : e ≡ End.spent
+  state-is : s ≡ record { position = m .position; size = m .size; count = k; mark = mark }
+
+pause-of : (s : State) (e : End) (k mark : ℕ) (m : Machine (List ℤ)) → paused s ≡ tell e k mark m → Paused s e k mark m
+unfolding tell state-or
+pause-of s End.done k mark m h = absurd (let no : _≡_ {A = ℕ} 0 1 = cc in omega arith)
+pause-of s End.spent k mark m h = record { spent = refl; state-is = ap (state-or s) h }
+pause-of s (fault e) k mark m h = absurd (let no : _≡_ {A = ℕ} 0 1 = cc in omega arith)
+
+pub hands-out : HandsOut
+hands-out code m D n s budget s′ m′ e = record {
+  all-spent = count;
+  taken = λ more fits. (
+    P code m D n s budget (paused s′) m′ e,
+    state-passes code m′ D n s′ more (record {
+      records = same-tests code D n m′ m (as-long code m D n s budget (paused s′) m′ e)
+          ∙ found code m D n s budget (paused s′) m′ e .records;
+      placed = omega (arith, ap (λ (t : State). t .position) is, in-bounds .placed);
+      held = omega (arith, ap (λ (t : State). t .size) is, ap (λ (t : State). t .mark) is, in-bounds .held);
+      marked = omega (arith, ap (λ (t : State). t .mark) is, in-bounds .marked);
+      room = omega arith;
+    }),
+  );
+}
+  where
+    res : Result (Machine (List ℤ))
+    res = r code m D n s budget (paused s′) m′ e
+
+    in-bounds : InBounds sum32 D (machine-cells D) (P code m D n s budget (paused s′) m′ e) (res .mark) (res .leaves)
+    in-bounds = stays code m D n s budget (paused s′) m′ e
+
+    pause : Paused s′ (res .end) (s .count + (budget - res .left)) (res .mark) (res .leaves)
+    pause = pause-of s′ _ _ _ _ (gone code m D n s budget (paused s′) m′ e .tells)
+
+    is : s′ ≡ record {
+      position = res .leaves .position;
+      size = res .leaves .size;
+      count = s .count + (budget - res .left);
+      mark = res .mark;
+    }
+    is = pause .state-is
+
+    count : s′ .count ≡ s .count + budget
+    count =
+        let none-left : res .left ≡ 0 =
+        spent-all sum32 D (machine-cells D) (P code m D n s budget (paused s′) m′ e) budget (s .mark)
+        (machine-at (s .position) (s .size) m) (pause .spent) in
+        omega (arith, ap (λ (t : State). t .count) is)
+
+-- ---- Two pieces are one
+
+module _ (a b : ℕ) (code : List ℕ) (m : List ℤ) (D n : ℕ) (s : State) (k : s .count + (a + b) ≤ 4294967295) where
+  abbrev two-calls : Answer Progress × List ℤ
+  two-calls = after-piece (go-on code m D n s a) (λ s′ m′. go-on code m′ D n s′ b)
+
+  module _ (P : MachineCode) (f : StateFound code m D n s a P) where
+    abbrev told-of : Result (Machine (List ℤ)) → Answer Progress × List ℤ
+    told-of r = (gives (progress s (a + b) r), r .leaves .memory)
+
+    -- by the end of the first
+    by-end : (x : End) (left h : ℕ) (t : Machine (List ℤ)) → (x ≡ End.spent → left ≡ 0)
+        → InBounds sum32 D (machine-cells D) P h t → length (t .memory) ≡ length m
+        → after-piece (gives (tell x (s .count + (a - left)) h t), t .memory) (λ s′ m′. go-on code m′ D n s′ b)
+        ≡ told-of (resume sum32 D (machine-cells D) P b x left h t)
+    unfolding tell after-piece resume
+    by-end End.done left h t z i l =
+        let same : s .count + (a - left) ≡ s .count + (a + b - (left + b)) = omega arith in
+        ap (λ c. (gives (finished (ran End.done c h)), t .memory)) same
+    by-end (fault e) left h t z i l =
+        let same : s .count + (a - left) ≡ s .count + (a + b - (left + b)) = omega arith in
+        ap (λ c. (gives (finished (ran (fault e) c h)), t .memory)) same
+    by-end End.spent left h t z i l =
+        let none-left : left ≡ 0 = z refl in
+        let s′ : State = record { position = t .position; size = t .size; count = s .count + (a - left); mark = h } in
+        let r = run sum32 D (machine-cells D) P b h t in
+        let most : r .left ≤ b = left-most sum32 D (machine-cells D) P b h t in
+        let on : s .count + (a - left) + (b - r .left) ≡ s .count + (a + b - r .left) = omega arith in
+        sym (state-runs code (t .memory) D n s′ b (state-passes code (t .memory) D n s′ b (record {
+          records = same-tests code D n (t .memory) m l ∙ f .records;
+          placed = i .placed;
+          held = i .held;
+          marked = i .marked;
+          room = omega arith;
+        })))
+        ∙ ap (λ c. (gives (tell (r .end) c (r .mark) (r .leaves)), r .leaves .memory)) on
+
+    in-two : two-calls ≡ go-on code m D n s (a + b)
+    unfolding sum32
+    in-two =
+        let here = machine-at (s .position) (s .size) m in
+        let r = run-from P m D s a in
+        let in-bounds = bounded code m D n s a f in
+        let cut : run-from P m D s (a + b)
+        ≡ resume sum32 D (machine-cells D) P b (r .end) (r .left) (r .mark) (r .leaves) =
+        split sum32 D (machine-cells D) P a b (s .mark) here in
+        ap (λ x. after-piece x (λ s′ m′. go-on code m′ D n s′ b))
+        (sym (state-runs code m D n s a (state-passes code m D n s a f)))
+        ∙ by-end (r .end) (r .left) (r .mark) (r .leaves) (spent-all sum32 D (machine-cells D) P a (s .mark) here)
+        (inside sum32 D (machine-cells D) P a (s .mark) here in-bounds) (length-kept P m D s a in-bounds)
+        ∙ ap told-of (sym cut)
+        ∙ state-runs code m D n s (a + b) (state-passes code m D n s (a + b) (record {
+          records = f .records;
+          placed = f .placed;
+          held = f .held;
+          marked = f .marked;
+          room = omega arith;
+        }))
+
+  -- both decline alike
+  both-decline : (number place : ℕ) → state-tests code m D n s a ≡ refused number place
+      → state-tests code m D n s (a + b) ≡ refused number place → two-calls ≡ go-on code m D n s (a + b)
+  unfolding after-piece
+  both-decline number place e e′ =
+      ap (λ x. after-piece x (λ s′ m′. go-on code m′ D n s′ b)) (sym (state-declines code m D n s a e))
+      ∙ state-declines code m D n s (a + b) e′
+
+  by-place : (P : MachineCode) → machine-tests code m D n ≡ gives P → (p q d : Bool) → leb (s .position) (length P) ≡ p
+      → leb (s .size) (s .mark) ≡ q → leb (s .mark) D ≡ d → two-calls ≡ go-on code m D n s (a + b)
+  unfolding state-tests and-then
+  by-place P e true true true p q d = in-two P (record {
+    records = e;
+    placed = leb-true (s .position) (length P) p;
+    held = leb-true (s .size) (s .mark) q;
+    marked = leb-true (s .mark) D d;
+    room = omega arith;
+  })
+  by-place P e true true false p q d = both-decline 15 0 (simp (e, p, q, d)) (simp (e, p, q, d))
+  by-place P e true false d′ p q d = both-decline 15 0 (simp (e, p, q)) (simp (e, p, q))
+  by-place P e false q′ d′ p q d = both-decline 15 0 (simp (e, p)) (simp (e, p))
+
+  by-tests : (x : Answer MachineCode) → machine-tests code m D n ≡ x → two-calls ≡ go-on code m D n s (a + b)
+  by-tests (gives P) e =
+      by-place P e (leb (s .position) (length P)) (leb (s .size) (s .mark)) (leb (s .mark) D) refl refl refl
+  by-tests (refused number place) e =
+      both-decline number place (first-refused code m D n s a e) (first-refused code m D n s (a + b) e)
+
+  joined : two-calls ≡ go-on code m D n s (a + b)
+  joined = by-tests (machine-tests code m D n) refl
+
+-- ---- Pieces
+
+-- what follows a piece may use what the pause says
+after-same : (x : Answer Progress × List ℤ) (f g : State → List ℤ → Answer Progress × List ℤ)
+    → ((s : State) (m : List ℤ) → x ≡ (gives (paused s), m) → f s m ≡ g s m) → after-piece x f ≡ after-piece x g
+unfolding after-piece
+after-same (gives (paused s), m) f g h = h s m refl
+after-same (gives (finished r), m) f g h = refl
+after-same (refused number place, m) f g h = refl
+
+pub pieces-from : PiecesFrom
+unfolding in-pieces total
+pieces-from code m D n s b [] k = refl
+pieces-from code m D n s b (b′ ∷ bs) k =
+    after-same (go-on code m D n s b) _ (λ s′ m′. go-on code m′ D n s′ (total b′ bs))
+    (λ s′ m′ e.
+    let fits : s′ .count + total b′ bs ≤ 4294967295 = omega (arith, k, hands-out code m D n s b s′ m′ e .all-spent) in
+    pieces-from code m′ D n s′ b′ bs fits)
+    ∙ joined b (total b′ bs) code m D n s k
+
+pub pieces : Pieces
+unfolding run-machine
+pieces code m D n b bs k =
+    let fits : 0 + total b bs ≤ 4294967295 = omega (arith, k) in
+    pieces-from code m D n fresh-state b bs fits
+
+-- ---- Refusals
+
+both-false : (a b : Bool) → b ≡ false → (a && b) ≡ false
+both-false true b e = e
+both-false false b e = refl
+
+module _ (code : List ℕ) (m : List ℤ) (D n : ℕ) (s : State) (budget : ℕ) (small : budget ≤ 4294967295)
+    (P : MachineCode) (e : machine-tests code m D n ≡ gives P) where
+  unfit-fails : Unfit s (length P) D budget → state-fits s (length P) D budget ≡ false
+  unfit-fails (inl l) = simp (lt-leb _ _ l)
+  unfit-fails (inr (inl l)) = both-false (leb (s .position) (length P)) _ (simp (lt-leb _ _ l))
+  unfit-fails (inr (inr (inl l))) =
+      both-false (leb (s .position) (length P)) _ (both-false (leb (s .size) (s .mark)) _ (simp (lt-leb _ _ l)))
+  unfit-fails (inr (inr (inr l))) =
+      let past : 4294967295 - budget < s .count = omega arith in
+      both-false (leb (s .position) (length P)) _
+      (both-false (leb (s .size) (s .mark)) _ (both-false (leb (s .mark) D) _ (lt-leb _ _ past)))
+
+  unfit-refused : Unfit s (length P) D budget → state-tests code m D n s budget ≡ refused 15 0
+  unfolding state-tests and-then
+  unfit-refused u = simp (e, unfit-fails u)
+
+  -- a state is unfit, or passes
+  by-limits : Dec (length P < s .position) → Dec (s .mark < s .size) → Dec (D < s .mark)
+      → Dec (4294967295 < s .count + budget) → Unfit s (length P) D budget ⊎ StateFound code m D n s budget P
+  by-limits (yes l) q d k = inl (inl l)
+  by-limits (no p) (yes l) d k = inl (inr (inl l))
+  by-limits (no p) (no q) (yes l) k = inl (inr (inr (inl l)))
+  by-limits (no p) (no q) (no d) (yes l) = inl (inr (inr (inr l)))
+  by-limits (no p) (no q) (no d) (no k) = inr (record {
+    records = e;
+    placed = omega (arith, p);
+    held = omega (arith, q);
+    marked = omega (arith, d);
+    room = omega (arith, k);
+  })
+
+  unfit-or-passes : Unfit s (length P) D budget ⊎ StateFound code m D n s budget P
+  unfit-or-passes =
+      by-limits (decLt (length P) (s .position)) (decLt (s .mark) (s .size)) (decLt D (s .mark))
+      (decLt 4294967295 (s .count + budget))
+
+  runs-fit : StateFound code m D n s budget P → let r = run-from P m D s budget in
+      go-on code m D n s budget ≡ (gives (progress s budget r), r .leaves .memory)
+  runs-fit f = sym (state-runs code m D n s budget (state-passes code m D n s budget f))
+
+  refused-unfit : go-on code m D n s budget ≡ (refused 15 0, m) → Unfit s (length P) D budget
+  refused-unfit h = elim unfit-or-passes [ inl u ↦ u | inr f ↦ not-both (ap (λ x. x .0) (sym h ∙ runs-fit f)) ]
+
+  else-run : (Unfit s (length P) D budget → ⊥) → let r = run-from P m D s budget in
+      go-on code m D n s budget ≡ (gives (progress s budget r), r .leaves .memory)
+  else-run none = elim unfit-or-passes [ inl u ↦ absurd (none u) | inr f ↦ runs-fit f ]
+
+pub fifteen-alone : FifteenAlone
+fifteen-alone code m D n s budget small = record {
+  after-eleven = λ number place e. sym (state-declines code m D n s budget (first-refused code m D n s budget e));
+  fifteen = λ P e. (
+    refused-unfit code m D n s budget small P e,
+    λ u. sym (state-declines code m D n s budget (unfit-refused code m D n s budget small P e u)),
+  );
+  else-runs = else-run code m D n s budget small;
+}

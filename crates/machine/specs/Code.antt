@@ -1,0 +1,12 @@
+-- What the code's answer of a call that runs machine code says: document 01's number and place, or what the run tells.
+use Rattle.base.specs.Answers.{Answer, gives, refused}
+use Rattle.base.specs.Ends.{ran}
+use Rattle.base.specs.Code.{end-of}
+use Rattle.machine.specs.Calls.{Progress, finished, paused}
+use Rattle.machine.specs.declared.Progress as Code
+use Rattle.machine.specs.declared.Progress.the-variants.{Refused, Ended, Paused}
+
+abbrev pub progress-answer : Code.Progress → Answer Progress
+progress-answer (Refused r) = refused (r .number) (r .place)
+progress-answer (Ended e count mark) = gives (finished (ran (end-of e) count mark))
+progress-answer (Paused s) = gives (paused s)
