@@ -54,6 +54,19 @@ mod exported {
             depth: u64,
             cells: u64,
             budget: u32,
+            state: *mut u32,
+            state_len: usize,
+        ) -> u64;
+        pub fn probe_go_on(
+            code: *const u8,
+            code_len: usize,
+            memory: *mut i32,
+            memory_len: usize,
+            depth: u64,
+            cells: u64,
+            state: *mut u32,
+            state_len: usize,
+            budget: u32,
         ) -> u64;
         pub fn probe_read_back(
             table: *const u8,
@@ -134,6 +147,21 @@ pub struct Ran {
     pub mark: u8,
 }
 
+/// A machine between two records: what a spent run hands out, and what a later call takes.
+#[derive(Clone, Copy, Debug, PartialEq, Eq)]
+pub struct State {
+    pub position: u32,
+    pub size: u32,
+    pub count: u32,
+    pub mark: u32,
+}
+
+/// A machine that has not run.
+pub const FRESH: State = State { position: 0, size: 0, count: 0, mark: 0 };
+
+/// What a run from a state gives: the run, and where it is spent the state that it hands out.
+pub type Piece = (Ran, Option<State>);
+
 /// The answer in bits 0 to 39: a refusal, or what `result` reads from the number.
 fn answer<T>(packed: u64, result: impl Fn(u64) -> T) -> Answer<T> {
     match packed as u8 {
@@ -208,12 +236,59 @@ pub fn load(table: &[u8], store: &[i32], depth: u64, memory: &mut [i32]) -> Answ
     answer(packed, count)
 }
 
-pub fn run_machine(code: &[u8], memory: &mut [i32], depth: u64, cells: u64, budget: u32) -> Answer<Ran> {
-    let (code_at, memory_at) = (code.as_ptr(), memory.as_mut_ptr());
+/// What a state's last three words hold before a call: they belong to later requests, and no call looks at them.
+const UNUSED: u32 = 0xa5a5_a5a5;
+
+/// A state's seven words.
+fn words(state: State) -> [u32; 7] {
+    [state.position, state.size, state.count, state.mark, UNUSED, UNUSED, UNUSED]
+}
+
+/// The answer of a call that was lent these words and left those: a spent run writes all seven, its count and its mark
+/// among them and 0 in the last three; any other answer leaves them.
+fn piece(packed: u64, lent: [u32; 7], left: [u32; 7]) -> Answer<Piece> {
+    let answer = answer(packed, |packed| {
+        let [position, size, count, mark, ..] = left;
+        let ran = ran(packed);
+        (ran, (ran.end == End::Spent).then_some(State { position, size, count, mark }))
+    });
+    match answer {
+        Answer::Gives((ran, Some(state))) => {
+            assert_eq!((state.count, state.mark), (ran.count, ran.mark.into()), "{left:?}");
+            assert_eq!(left[4..], [0; 3], "{answer:?}");
+        }
+        _ => assert_eq!(left, lent, "{answer:?}"),
+    }
+    answer
+}
+
+/// A run from a fresh machine, with the state that it hands out.
+pub fn start(code: &[u8], memory: &mut [i32], depth: u64, cells: u64, budget: u32) -> Answer<Piece> {
+    let lent = [UNUSED; 7];
+    let mut state = lent;
+    let (code_at, memory_at, state_at) = (code.as_ptr(), memory.as_mut_ptr(), state.as_mut_ptr());
     let packed = unsafe {
-        exported::probe_run_machine(code_at, code.len(), memory_at, memory.len(), depth, cells, budget)
+        exported::probe_run_machine(code_at, code.len(), memory_at, memory.len(), depth, cells, budget, state_at, 7)
     };
-    answer(packed, ran)
+    piece(packed, lent, state)
+}
+
+/// The same without the state.
+pub fn run_machine(code: &[u8], memory: &mut [i32], depth: u64, cells: u64, budget: u32) -> Answer<Ran> {
+    match start(code, memory, depth, cells, budget) {
+        Answer::Gives((ran, _)) => Answer::Gives(ran),
+        Answer::Refused { number, place } => Answer::Refused { number, place },
+    }
+}
+
+pub fn go_on(code: &[u8], memory: &mut [i32], depth: u64, cells: u64, from: State, budget: u32) -> Answer<Piece> {
+    let lent = words(from);
+    let mut state = lent;
+    let (code_at, memory_at, state_at) = (code.as_ptr(), memory.as_mut_ptr(), state.as_mut_ptr());
+    let packed = unsafe {
+        exported::probe_go_on(code_at, code.len(), memory_at, memory.len(), depth, cells, state_at, 7, budget)
+    };
+    piece(packed, lent, state)
 }
 
 pub fn read_back(table: &[u8], memory: &[i32], depth: u64, store: &mut [i32]) -> Answer<usize> {

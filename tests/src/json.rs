@@ -1,9 +1,10 @@
-//! As much of JSON as the vectors use: objects, arrays, strings without escapes, whole numbers.
+//! As much of JSON as the vectors use: objects, arrays, strings without escapes, whole numbers, null.
 
 use std::collections::BTreeMap;
 
 #[derive(Clone, Debug, PartialEq)]
 pub enum Value {
+    Null,
     Number(i64),
     Text(String),
     List(Vec<Value>),
@@ -99,6 +100,7 @@ impl Parser<'_> {
                 Value::List(list)
             }
             b'"' => Value::Text(self.string()),
+            b'n' => self.null(),
             _ => self.whole_number(),
         }
     }
@@ -124,6 +126,12 @@ impl Parser<'_> {
         }
         self.at += 1;
         String::from_utf8(self.bytes[start..self.at - 1].to_vec()).unwrap()
+    }
+
+    fn null(&mut self) -> Value {
+        assert!(self.bytes[self.at..].starts_with(b"null"), "no word of JSON at {}", self.at);
+        self.at += 4;
+        Value::Null
     }
 
     fn whole_number(&mut self) -> Value {

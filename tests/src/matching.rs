@@ -1,6 +1,6 @@
 //! The simple interpreter's answers in the form of the proved calls' answers.
 
-use crate::calls::{Answer, End, Ran, Sizes};
+use crate::calls::{Answer, End, Piece, Ran, Sizes, State};
 use crate::model;
 
 pub fn answer<T, U>(result: Result<T, model::Refusal>, given: impl Fn(T) -> U) -> Answer<U> {
@@ -22,18 +22,37 @@ pub fn count(result: Result<usize, model::Refusal>) -> Answer<usize> {
     answer(result, |n| n)
 }
 
+fn told(ran: model::Ran) -> Ran {
+    let end = match ran.end {
+        model::End::Done => End::Done,
+        model::End::Spent => End::Spent,
+        model::End::OutOfRange => End::OutOfRange,
+        model::End::Short => End::Short,
+        model::End::Full => End::Full,
+        model::End::Astray => End::Astray,
+    };
+    Ran { end, count: ran.count, mark: ran.mark as u8 }
+}
+
 pub fn ran(result: Result<model::Ran, model::Refusal>) -> Answer<Ran> {
-    answer(result, |ran| {
-        let end = match ran.end {
-            model::End::Done => End::Done,
-            model::End::Spent => End::Spent,
-            model::End::OutOfRange => End::OutOfRange,
-            model::End::Short => End::Short,
-            model::End::Full => End::Full,
-            model::End::Astray => End::Astray,
-        };
-        Ran { end, count: ran.count, mark: ran.mark as u8 }
+    answer(result, told)
+}
+
+pub fn piece(result: Result<model::Piece, model::Refusal>) -> Answer<Piece> {
+    answer(result, |(ran, state)| {
+        let handed_out = state.map(|model::State { position, size, count, mark }| State {
+            position: position as u32,
+            size: size as u32,
+            count,
+            mark: mark as u32,
+        });
+        (told(ran), handed_out)
     })
+}
+
+/// A state as the simple interpreter takes it.
+pub fn state(State { position, size, count, mark }: State) -> model::State {
+    model::State { position: position as usize, size: size as usize, count, mark: mark as usize }
 }
 
 /// A preview's answer, and what the cells lent for its store then hold.

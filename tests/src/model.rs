@@ -513,65 +513,75 @@ impl Memory for Cells<'_> {
     }
 }
 
-fn run(code: &[Record], memory: &mut dyn Memory, depth: usize, budget: u32) -> Ran {
-    let (mut position, mut size, mut count, mut mark) = (0, 0, 0, 0);
+/// A machine between two records; the mark is the most values that its stack held so far.
+#[derive(Clone, Copy, Debug, PartialEq, Eq)]
+pub struct State {
+    pub position: usize,
+    pub size: usize,
+    pub count: u32,
+    pub mark: usize,
+}
+
+const FRESH: State = State { position: 0, size: 0, count: 0, mark: 0 };
+
+/// What a record takes off the stack and what it then pushes.
+fn effect(record: Record) -> (usize, usize) {
+    match record {
+        Loadi(_) | Load(_) => (0, 1),
+        Add => (2, 1),
+        Store(_) => (1, 0),
+        Jmp(_) => (0, 0),
+        Jmpless(_) | Jmpge(_) => (2, 0),
+    }
+}
+
+/// The record at the position, and the machine after it; or its end, which changes no cell.
+fn step(code: &[Record], memory: &mut dyn Memory, depth: usize, state: State) -> Result<State, End> {
+    let State { position, size, .. } = state;
+    let record = code[position];
+    let (takes, puts) = effect(record);
+    if size < takes {
+        return Err(End::Short);
+    }
+    let mut next = position as i64 + 1;
+    match record {
+        Loadi(_) | Load(_) if size == depth => return Err(End::Full),
+        Loadi(z) => *memory.slot(size) = z,
+        Load(name) => *memory.slot(size) = *memory.named(name),
+        Add => {
+            let sum = memory.slot(size - 2).checked_add(*memory.slot(size - 1));
+            *memory.slot(size - 2) = sum.ok_or(End::OutOfRange)?;
+        }
+        Store(name) => *memory.named(name) = *memory.slot(size - 1),
+        Jmp(i) => next += i64::from(i),
+        Jmpless(i) if *memory.slot(size - 2) < *memory.slot(size - 1) => next += i64::from(i),
+        Jmpge(i) if *memory.slot(size - 2) >= *memory.slot(size - 1) => next += i64::from(i),
+        Jmpless(_) | Jmpge(_) => {}
+    }
+    if next < 0 || next > code.len() as i64 {
+        return Err(End::Astray);
+    }
+    let size = size - takes + puts;
+    Ok(State { position: next as usize, size, count: state.count, mark: state.mark.max(size) })
+}
+
+/// Runs on from a machine, spent at the count `limit`: what the run tells, and the machine as it is then.
+fn run(code: &[Record], memory: &mut dyn Memory, depth: usize, from: State, limit: u32) -> (Ran, State) {
+    let mut state = from;
     let end = loop {
-        mark = mark.max(size);
-        if position == code.len() {
+        if state.position == code.len() {
             break End::Done;
         }
-        if count == budget {
+        if state.count == limit {
             break End::Spent;
         }
-        count += 1;
-        let record = code[position];
-        let needs = match record {
-            Add | Jmpless(_) | Jmpge(_) => 2,
-            Store(_) => 1,
-            _ => 0,
-        };
-        if size < needs {
-            break End::Short;
+        state.count += 1;
+        match step(code, memory, depth, state) {
+            Ok(next) => state = next,
+            Err(end) => break end,
         }
-        let pushed = match record {
-            Loadi(z) => Some(z),
-            Load(name) => Some(*memory.named(name)),
-            _ => None,
-        };
-        if let Some(z) = pushed {
-            if size == depth {
-                break End::Full;
-            }
-            *memory.slot(size) = z;
-            (position, size) = (position + 1, size + 1);
-            continue;
-        }
-        let jump = match record {
-            Add => {
-                let Some(z) = memory.slot(size - 2).checked_add(*memory.slot(size - 1)) else {
-                    break End::OutOfRange;
-                };
-                *memory.slot(size - 2) = z;
-                (position, size) = (position + 1, size - 1);
-                continue;
-            }
-            Store(name) => {
-                *memory.named(name) = *memory.slot(size - 1);
-                (position, size) = (position + 1, size - 1);
-                continue;
-            }
-            Jmp(i) => Some(i),
-            Jmpless(i) => (*memory.slot(size - 2) < *memory.slot(size - 1)).then_some(i),
-            Jmpge(i) => (*memory.slot(size - 2) >= *memory.slot(size - 1)).then_some(i),
-            Loadi(_) | Load(_) => unreachable!(),
-        };
-        let target = position as i64 + 1 + jump.map_or(0, i64::from);
-        if target < 0 || target > code.len() as i64 {
-            break End::Astray;
-        }
-        (position, size) = (target as usize, size - needs);
     };
-    Ran { end, count, mark }
+    (Ran { end, count: state.count, mark: state.mark }, state)
 }
 
 pub fn run_assembly(code: &[u8], store: &mut [i32], stack: &mut [i32], budget: u32) -> Result<Ran, Refusal> {
@@ -584,7 +594,7 @@ pub fn run_assembly(code: &[u8], store: &mut [i32], stack: &mut [i32], budget: u
     if depth > 64 {
         return Err(Refusal(11, 0));
     }
-    Ok(run(&records, &mut AssemblyMemory { store, stack }, depth, budget))
+    Ok(run(&records, &mut AssemblyMemory { store, stack }, depth, FRESH, budget).0)
 }
 
 /// 11: D or n above 64, or a memory that has not D + 1 + n cells.
@@ -595,12 +605,37 @@ fn fits(depth: u64, n: u64, memory: &[i32]) -> Result<(), Refusal> {
     Ok(())
 }
 
-pub fn run_machine(code: &[u8], memory: &mut [i32], depth: u64, n: u64, budget: u32) -> Result<Ran, Refusal> {
+/// What a run of machine code gives: the run, and where it is spent the machine as it is then (W7).
+pub type Piece = (Ran, Option<State>);
+
+/// W7: goes on from a machine, the budget counting from there; or 9, 10, 11, 15.
+pub fn go_on(
+    code: &[u8],
+    memory: &mut [i32],
+    depth: u64,
+    n: u64,
+    from: State,
+    budget: u32,
+) -> Result<Piece, Refusal> {
     whole(code)?;
     let records = records(code, 0x50, 1..=n)?;
     fits(depth, n, memory)?;
     let depth = depth as usize;
-    Ok(run(&records, &mut Cells { cells: memory, depth }, depth, budget))
+    let limit = from.count.checked_add(budget).ok_or(Refusal(15, 0))?;
+    if from.position > records.len() || from.size > from.mark || from.mark > depth {
+        return Err(Refusal(15, 0));
+    }
+    let (ran, state) = run(&records, &mut Cells { cells: memory, depth }, depth, from, limit);
+    Ok((ran, (ran.end == End::Spent).then_some(state)))
+}
+
+/// The same from a fresh machine, to which 15 never applies.
+pub fn start(code: &[u8], memory: &mut [i32], depth: u64, n: u64, budget: u32) -> Result<Piece, Refusal> {
+    go_on(code, memory, depth, n, FRESH, budget)
+}
+
+pub fn run_machine(code: &[u8], memory: &mut [i32], depth: u64, n: u64, budget: u32) -> Result<Ran, Refusal> {
+    start(code, memory, depth, n, budget).map(|(ran, _)| ran)
 }
 
 // ---- Loading, reading back, going back
@@ -675,17 +710,6 @@ pub fn preview_machine(
 }
 
 // ---- Inspection (W5)
-
-/// What a record takes off the stack and what it then pushes.
-fn effect(record: Record) -> (usize, usize) {
-    match record {
-        Loadi(_) | Load(_) => (0, 1),
-        Add => (2, 1),
-        Store(_) => (1, 0),
-        Jmp(_) => (0, 0),
-        Jmpless(_) | Jmpge(_) => (2, 0),
-    }
-}
 
 /// The positions, in the code or not, to which a record leads.
 fn successors(record: Record, position: usize) -> Vec<i64> {

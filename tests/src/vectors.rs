@@ -1,6 +1,6 @@
 //! `vectors/calls.jsonl`: single calls with every lent buffer before and after.
 
-use crate::calls::{Answer, End, Ran, Sizes};
+use crate::calls::{Answer, End, Piece, Ran, Sizes, State};
 use crate::json::Value;
 
 /// One line of the file.
@@ -101,9 +101,9 @@ impl Call {
         self.answer(|call| call.output(name) as usize)
     }
 
-    pub fn ran(&self) -> Answer<Ran> {
-        self.answer(|call| Ran {
-            end: match call.value.get("out").unwrap().get("end").unwrap().text() {
+    fn told(&self) -> Ran {
+        Ran {
+            end: match self.value.get("out").unwrap().get("end").unwrap().text() {
                 "done" => End::Done,
                 "spent" => End::Spent,
                 "range" => End::OutOfRange,
@@ -112,8 +112,29 @@ impl Call {
                 "astray" => End::Astray,
                 other => panic!("no end is called {other}"),
             },
-            count: call.output("count") as u32,
-            mark: call.output("mark") as u8,
-        })
+            count: self.output("count") as u32,
+            mark: self.output("mark") as u8,
+        }
     }
+
+    pub fn ran(&self) -> Answer<Ran> {
+        self.answer(Call::told)
+    }
+
+    /// A run and the state that it hands out.
+    pub fn piece(&self) -> Answer<Piece> {
+        self.answer(|call| (call.told(), call.value.get("out").unwrap().get("state").map(state)))
+    }
+
+    /// The state that the call takes.
+    pub fn state(&self) -> State {
+        state(self.input("state"))
+    }
+}
+
+/// A state; what later requests keep in it is not there yet.
+fn state(value: &Value) -> State {
+    let number = |name: &str| u32::try_from(value.get(name).unwrap().number()).unwrap();
+    assert_eq!((value.get("carried"), number("reach")), (Some(&Value::Null), 0));
+    State { position: number("position"), size: number("size"), count: number("count"), mark: number("mark") }
 }

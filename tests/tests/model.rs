@@ -1,4 +1,4 @@
-//! The simple interpreter agrees with the vectors, which come from another model of document 01.
+//! The simple interpreter agrees with the vectors, which come from another model of documents 01 and 02.
 
 use profile_tests::{matching, model, vectors};
 
@@ -44,8 +44,15 @@ fn runs() {
     for call in vectors::calls("run_machine") {
         let mut memory = call.cells("memory");
         let (code, depth, n) = (call.bytes("code"), call.number("D"), call.number("n"));
-        let got = model::run_machine(&code, &mut memory, depth, n, call.budget());
-        assert_eq!(matching::ran(got), call.ran(), "line {}", call.line);
+        let got = model::start(&code, &mut memory, depth, n, call.budget());
+        assert_eq!(matching::piece(got), call.piece(), "line {}", call.line);
+        assert_eq!(memory, call.cells_after("memory"), "line {}", call.line);
+    }
+    for call in vectors::calls("go_on") {
+        let mut memory = call.cells("memory");
+        let (code, depth, n, from) = (call.bytes("code"), call.number("D"), call.number("n"), call.state());
+        let got = model::go_on(&code, &mut memory, depth, n, matching::state(from), call.budget());
+        assert_eq!(matching::piece(got), call.piece(), "line {}", call.line);
         assert_eq!(memory, call.cells_after("memory"), "line {}", call.line);
     }
 }

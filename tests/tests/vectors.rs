@@ -63,8 +63,19 @@ fn run_machine() {
     for call in vectors::calls("run_machine") {
         let mut memory = call.cells("memory");
         let (code, depth, n) = (call.bytes("code"), call.number("D"), call.number("n"));
-        let got = calls::run_machine(&code, &mut memory, depth, n, call.budget());
-        assert_eq!(got, call.ran(), "line {}", call.line);
+        let got = calls::start(&code, &mut memory, depth, n, call.budget());
+        assert_eq!(got, call.piece(), "line {}", call.line);
+        assert_eq!(memory, call.cells_after("memory"), "line {}", call.line);
+    }
+}
+
+#[test]
+fn go_on() {
+    for call in vectors::calls("go_on") {
+        let mut memory = call.cells("memory");
+        let (code, depth, n) = (call.bytes("code"), call.number("D"), call.number("n"));
+        let got = calls::go_on(&code, &mut memory, depth, n, call.state(), call.budget());
+        assert_eq!(got, call.piece(), "line {}", call.line);
         assert_eq!(memory, call.cells_after("memory"), "line {}", call.line);
     }
 }
