@@ -100,8 +100,8 @@ fn foreign_machine_code() {
         let start = random.cells(length);
         let budget = random.budget();
         let (mut proved, mut simple) = (start.clone(), start);
-        let got = calls::run_machine(&code, &mut proved, depth, n, budget);
-        assert_eq!(got, matching::ran(model::run_machine(&code, &mut simple, depth, n, budget)), "{seed}");
+        let got = calls::start(&code, &mut proved, depth, n, budget);
+        assert_eq!(got, matching::piece(model::start(&code, &mut simple, depth, n, budget)), "{seed}");
         assert_eq!(proved, simple, "{seed}");
     });
 }

@@ -1,6 +1,6 @@
 //! Bad input gets its numbered refusal with its place, and nothing is changed.
 
-use profile_tests::calls::{read, run_paired, run_source, Answer, End, Ran, Sizes};
+use profile_tests::calls::{go_on, read, run_paired, run_source, start, Answer, End, Piece, Ran, Sizes, State};
 
 fn refused<T>(number: u8, place: u32) -> Answer<T> {
     Answer::Refused { number, place }
@@ -176,6 +176,107 @@ fn order_of_a_paired_run() {
         for &(other, _) in &order[i..] {
             let (code, table, cells, depth) = faulty([number, other]);
             assert_eq!(paired(&code, &table, cells, depth), refused(number, place), "{number} and {other}");
+        }
+    }
+}
+
+/// The machine of PAIRED, with D 2 and n 2, between its second record and its third.
+const PAUSED: State = State { position: 2, size: 2, count: 2, mark: 2 };
+
+/// Going on with so many cells lent for the memory, beside a run from a fresh machine, which declines alike but for 15.
+/// Where they decline, the memory stays, and so does the state, which the calls see to.
+fn going_on(code: &[u8], lent: usize, depth: u64, n: u64, from: State) -> Answer<Piece> {
+    let before = vec![7; lent];
+    let [mut memory, mut other] = [before.clone(), before.clone()];
+    let answer = go_on(code, &mut memory, depth, n, from, 1000);
+    let fresh = start(code, &mut other, depth, n, 1000);
+    match (answer, fresh) {
+        (Answer::Gives(_), Answer::Gives(_)) => {}
+        (Answer::Refused { number: 15, .. }, Answer::Gives(_)) => assert_eq!(memory, before),
+        _ => assert_eq!((answer, &memory, &other), (fresh, &before, &before)),
+    }
+    answer
+}
+
+#[test]
+fn going_on_with_any_lengths() {
+    let code = PAIRED.concat();
+    let done = Answer::Gives((Ran { end: End::Done, count: 4, mark: 2 }, None));
+    assert_eq!(going_on(&code, 5, 2, 2, PAUSED), done);
+    for bytes in 1..5 {
+        assert_eq!(going_on(&code[bytes..], 5, 2, 2, PAUSED), refused(9, 0));
+    }
+    assert_eq!(going_on(&[0x54, 0, 0, 0, 0].repeat(4097), 5, 2, 2, PAUSED), refused(9, 0));
+    for lent in (0..=130).filter(|&n| n != 5) {
+        assert_eq!(going_on(&code, lent, 2, 2, PAUSED), refused(11, 0), "{lent} cells");
+    }
+    for many in [65, 66, 128, 256, 1 << 32, u64::MAX - 1, u64::MAX] {
+        let lent = (many.wrapping_add(3) % 256) as usize;
+        assert_eq!(going_on(&code, lent, many, 2, PAUSED), refused(11, 0), "D {many}");
+        assert_eq!(going_on(&code, lent, 2, many, PAUSED), refused(11, 0), "n {many}");
+    }
+}
+
+/// Records that are none, the first of them at its index; addresses above n, whatever n is.
+#[test]
+fn going_on_with_any_records() {
+    let bad = [[0x57, 0, 0, 0, 0], [0x41, 1, 0, 0, 0], [0x52, 1, 0, 0, 0], [0x51, 0, 0, 0, 0], [0x53, 1, 1, 0, 0]];
+    for (index, record) in (0..4).flat_map(|index| bad.map(|record| (index, record))) {
+        let mut records = PAIRED;
+        records[index..].fill(record);
+        assert_eq!(going_on(&records.concat(), 5, 2, 2, PAUSED), refused(10, index as u32), "{record:02x?}");
+    }
+    assert_eq!(going_on(&PAIRED.concat(), 4, 2, 1, PAUSED), refused(10, 0));
+    assert_eq!(going_on(&[0x51, 65, 0, 0, 0], 68, 2, 65, PAUSED), refused(11, 0));
+    assert_eq!(going_on(&[0x51, 66, 0, 0, 0], 68, 2, 65, PAUSED), refused(10, 0));
+}
+
+/// States that PAIRED with D 2 and a budget of 1000 can't go on from: by position, stack size, mark and count.
+fn no_states() -> [Vec<State>; 4] {
+    let above = |most: u32| [1, 2, 1 << 8, 1 << 16, 1 << 31, u32::MAX - most].map(|more| most + more);
+    let sizes = above(2).map(|size| State { size, ..PAUSED });
+    let marks = above(2).map(|mark| State { mark, ..PAUSED });
+    let both = above(2).map(|mark| State { size: mark, mark, ..PAUSED });
+    let counts = [999, 998, 1, 0].map(|left| State { count: u32::MAX - left, ..PAUSED });
+    [
+        above(4).map(|position| State { position, ..PAUSED }).to_vec(),
+        [&sizes[..], &[State { mark: 1, ..PAUSED }, State { mark: 0, ..PAUSED }]].concat(),
+        [marks, both].concat(),
+        counts.to_vec(),
+    ]
+}
+
+/// 15 under each of its conditions, and at their limits not.
+#[test]
+fn going_on_from_any_state() {
+    for from in no_states().concat() {
+        assert_eq!(going_on(&PAIRED.concat(), 5, 2, 2, from), refused(15, 0), "{from:?}");
+    }
+    for from in [
+        State { position: 4, ..PAUSED },
+        State { size: 0, ..PAUSED },
+        State { size: 0, mark: 0, ..PAUSED },
+        State { count: 0, ..PAUSED },
+        State { count: u32::MAX - 1000, ..PAUSED },
+    ] {
+        assert!(matches!(going_on(&PAIRED.concat(), 5, 2, 2, from), Answer::Gives(_)), "{from:?}");
+    }
+}
+
+/// Each number alone, and the earlier of each two, 15 by each of its conditions.
+#[test]
+fn order_of_going_on() {
+    let order = [(9, 0), (10, 2), (11, 0), (15, 0)];
+    for (i, &(number, place)) in order.iter().enumerate() {
+        for &(other, _) in &order[i..] {
+            let has = |one| [number, other].contains(&one);
+            let mut records = PAIRED;
+            records[2][1] = u8::from(has(10));
+            let (bytes, lent) = (if has(9) { 19 } else { 20 }, if has(11) { 6 } else { 5 });
+            for from in if has(15) { no_states().concat() } else { vec![PAUSED] } {
+                let got = going_on(&records.concat()[..bytes], lent, 2, 2, from);
+                assert_eq!(got, refused(number, place), "{number} and {other}: {from:?}");
+            }
         }
     }
 }
