@@ -1,6 +1,6 @@
-/* The native stack that each exported call uses, and the inspection and the paired run, through their probes. The call
- * runs on a stack of its own, painted before; the lowest byte that lost its paint tells how far it went. What an empty
- * call uses is taken off.
+/* The native stack that each exported call uses, and the inspection, the paired run and going on, through their probes.
+ * The call runs on a stack of its own, painted before; the lowest byte that lost its paint tells how far it went. What
+ * an empty call uses is taken off.
  *
  *     stack TEXT_FILE...
  *
@@ -17,14 +17,18 @@
 uint64_t probe_inspect(const uint8_t *code, size_t code_length, uint64_t depth, uint64_t cells);
 uint64_t probe_run_paired(const uint8_t *code, size_t code_length, const uint8_t *table, size_t table_length,
                           int32_t *store, size_t store_length, uint64_t depth, uint32_t budget);
+uint64_t probe_go_on(const uint8_t *code, size_t code_length, int32_t *memory, size_t memory_length, uint64_t depth,
+                     uint64_t cells, uint32_t *state, size_t state_length, uint32_t budget);
 
 enum { LONGEST = 4096, RECORD = 5, SPACE = 1 << 20, PAINT = 0xa5, LIMIT = 32 * 1024 };
+enum { SPENT = 1 << 8 }; /* bits 0-15 of a spent run's answer */
 
 static uint8_t text[LONGEST + 1], code[RECORD * LONGEST], assembly[RECORD * LONGEST], table[64];
-static int32_t store[64];
+static int32_t store[64], memory[PROFILE_MEMORY_CELLS];
+static uint32_t state[7];
 static size_t length;
 static unsigned records;
-static int refused; /* set where a paired run of one record or more is refused */
+static int refused; /* set where a run of one record or more is refused */
 
 /* The calls, on the buffers above. */
 static void nothing(void) {}
@@ -44,6 +48,18 @@ static void running_paired(void)
     uint64_t answer = probe_run_paired(code, RECORD * (size_t)records, table, sizeof table, store, 64, 64, 1000);
     refused |= records && profile_refusal(answer);
 }
+/* From a fresh machine on, in pieces of 10 records, until one is not spent; at most 100 pieces. */
+static void going_on(void)
+{
+    uint64_t answer;
+    int pieces = 0;
+
+    memset(state, 0, sizeof state);
+    do
+        answer = probe_go_on(code, RECORD * (size_t)records, memory, PROFILE_MEMORY_CELLS, 64, 64, state, 7, 10);
+    while ((answer & 0xffff) == SPENT && ++pieces < 100);
+    refused |= profile_refusal(answer) != PROFILE_ACCEPTED;
+}
 
 static struct {
     const char *name;
@@ -55,8 +71,9 @@ static struct {
     {"profile_go_back", going_back, 0},
     {"probe_inspect", inspecting, 0},
     {"probe_run_paired", running_paired, 0},
+    {"probe_go_on", going_on, 0},
 };
-enum { INSPECT = 3, RUN_PAIRED, CALLS = sizeof calls / sizeof calls[0] };
+enum { INSPECT = 3, RUN_PAIRED, GO_ON, CALLS = sizeof calls / sizeof calls[0] };
 
 /* How many bytes of a fresh stack a call changes. */
 static size_t stack_used(void (*call)(void))
@@ -169,6 +186,7 @@ static void measure_longest_code(void)
     memset(table, 0, sizeof table);
     measure_call(INSPECT);
     measure_call(RUN_PAIRED);
+    measure_call(GO_ON);
 }
 
 int main(int count, char **words)
@@ -180,7 +198,7 @@ int main(int count, char **words)
         measure_file(words[i]);
     measure_longest_code();
     if (refused)
-        fprintf(stderr, "a paired run is refused\n");
+        fprintf(stderr, "a run is refused\n");
     for (int i = 0; i < CALLS; i++) {
         printf("%s: %zu bytes of stack\n", calls[i].name, calls[i].most);
         failed |= calls[i].most == 0 || calls[i].most > LIMIT;
