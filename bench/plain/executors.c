@@ -1,24 +1,33 @@
 /* Both executors in plain C: records decoded from their bytes at each step, no bounds checks on code, store or memory. */
+#include <stdbool.h>
 #include <stddef.h>
 #include <stdint.h>
 #include <string.h>
 
 enum { DONE, SPENT, RANGE, SHORT, FULL, ASTRAY };
-enum { LOADI, LOAD, ADD, STORE, JMP, JMPLESS };
+enum { LOADI, LOAD, ADD, STORE, JMP, JMPLESS, JMPGE };
 
-/* `first` is the byte of LOADI. Slot i of the stack is bottom[way * i]; a name's cell is names[name]. The answer is
- * packed as the probes pack it: the end from bit 8, the count from bit 16, the mark from bit 48. */
-static inline __attribute__((always_inline)) uint64_t run(uint8_t first, const uint8_t *code, size_t length,
-                                                          int32_t *bottom, ptrdiff_t way, int32_t *names,
-                                                          ptrdiff_t depth, uint32_t budget)
+/* A machine between two records, and the end that it came to. */
+struct state {
+    int64_t position;
+    ptrdiff_t size, mark;
+    uint32_t count;
+    int end;
+};
+
+/* From a state on, spent at the count `limit`. `first` is the byte of LOADI. Slot i of the stack is bottom[way * i]; a
+ * name's cell is names[name]. */
+static inline __attribute__((always_inline)) struct state run(uint8_t first, const uint8_t *code, size_t length,
+                                                              int32_t *bottom, ptrdiff_t way, int32_t *names,
+                                                              ptrdiff_t depth, struct state from, uint32_t limit)
 {
-    int64_t last = (int64_t)(length / 5), position = 0;
-    ptrdiff_t size = 0, mark = 0;
-    uint32_t count = 0;
-    uint64_t end = DONE;
+    int64_t last = (int64_t)(length / 5), position = from.position;
+    ptrdiff_t size = from.size, mark = from.mark;
+    uint32_t count = from.count;
+    int end = DONE;
 
     while (position != last) {
-        if (count == budget) {
+        if (count == limit) {
             end = SPENT;
             break;
         }
@@ -107,17 +116,68 @@ static inline __attribute__((always_inline)) uint64_t run(uint8_t first, const u
         position = next;
     }
 out:
-    return end << 8 | (uint64_t)count << 16 | (uint64_t)mark << 48;
+    return (struct state){position, size, mark, count, end};
+}
+
+/* As the probes pack it: the end from bit 8, the count from bit 16, the mark from bit 48. */
+static inline uint64_t packed(struct state state)
+{
+    return (uint64_t)state.end << 8 | (uint64_t)state.count << 16 | (uint64_t)state.mark << 48;
 }
 
 /* Cell j is address j - depth; the stack grows from -1 down. */
 uint64_t plain_run_machine(const uint8_t *code, size_t length, int32_t *memory, size_t depth, uint32_t budget)
 {
-    return run(0x50, code, length, memory + depth - 1, -1, memory + depth, (ptrdiff_t)depth, budget);
+    int32_t *middle = memory + depth;
+    return packed(run(0x50, code, length, middle - 1, -1, middle, (ptrdiff_t)depth, (struct state){0}, budget));
 }
 
 uint64_t plain_run_assembly(const uint8_t *code, size_t length, int32_t *store, int32_t *stack, size_t depth,
                             uint32_t budget)
 {
-    return run(0x40, code, length, stack, 1, store, (ptrdiff_t)depth, budget);
+    return packed(run(0x40, code, length, stack, 1, store, (ptrdiff_t)depth, (struct state){0}, budget));
+}
+
+/* Whether a machine record is one, with addresses from 1 to n. */
+static inline bool known(const uint8_t *record, uint64_t n)
+{
+    int32_t operand;
+
+    memcpy(&operand, record + 1, 4);
+    switch (record[0] - 0x50) {
+    case LOAD:
+    case STORE:
+        return operand >= 1 && (uint64_t)operand <= n;
+    case ADD:
+        return operand == 0;
+    default:
+        return record[0] >= 0x50 + LOADI && record[0] <= 0x50 + JMPGE;
+    }
+}
+
+/* Goes on from a state of seven words, which a spent run writes; refuses 9, 10, 11, 15, packed as the probes do it. */
+uint64_t plain_go_on(const uint8_t *code, size_t length, int32_t *memory, size_t memory_length, uint64_t depth,
+                     uint64_t cells, uint32_t *words, size_t words_length, uint32_t budget)
+{
+    if (length % 5 != 0 || length / 5 > 4096)
+        return 9;
+    for (size_t i = 0; i < length / 5; i++)
+        if (!known(code + 5 * i, cells))
+            return 10 | (uint64_t)i << 8;
+    if (depth > 64 || cells > 64 || memory_length != depth + 1 + cells)
+        return 11;
+    struct state from = {words[0], words[1], words[3], words[2], DONE};
+    if (words[0] > length / 5 || words[1] > words[3] || words[3] > depth || from.count + (uint64_t)budget > UINT32_MAX)
+        return 15;
+    int32_t *middle = memory + depth;
+    uint32_t limit = from.count + budget;
+    struct state state = run(0x50, code, length, middle - 1, -1, middle, (ptrdiff_t)depth, from, limit);
+    if (state.end == SPENT) {
+        memset(words, 0, 4 * words_length);
+        words[0] = (uint32_t)state.position;
+        words[1] = (uint32_t)state.size;
+        words[2] = state.count;
+        words[3] = (uint32_t)state.mark;
+    }
+    return packed(state);
 }

@@ -1,5 +1,8 @@
 //! Both executors in plain safe Rust: records decoded from their bytes at each step.
 
+use crate::compiler;
+use crate::cursor::Refusal;
+
 /// Where names and stack slots stand.
 trait Memory {
     fn named(&mut self, name: i32) -> &mut i32;
@@ -106,14 +109,25 @@ fn step(
     }
 }
 
-/// The end from bit 8, the count from bit 16, the mark from bit 48.
-fn run(first: u8, code: &[u8], memory: &mut impl Memory, depth: usize, budget: u32) -> u64 {
-    let (last, mut position, mut size, mut mark, mut count) = (code.len() / 5, 0, 0, 0, 0);
+/// A machine between two records.
+#[derive(Default)]
+struct State {
+    position: usize,
+    size: usize,
+    count: u32,
+    mark: usize,
+}
+
+/// From a state on, spent at the count `limit`.
+#[inline(always)]
+fn run(first: u8, code: &[u8], memory: &mut impl Memory, depth: usize, from: State, limit: u32) -> (End, State) {
+    let State { mut position, mut size, mut count, mut mark } = from;
+    let last = code.len() / 5;
     let end = loop {
         if position == last {
             break End::Done;
         }
-        if count == budget {
+        if count == limit {
             break End::Spent;
         }
         count += 1;
@@ -122,14 +136,49 @@ fn run(first: u8, code: &[u8], memory: &mut impl Memory, depth: usize, budget: u
             Err(end) => break end,
         }
     };
-    (end as u64) << 8 | (count as u64) << 16 | (mark as u64) << 48
+    (end, State { position, size, count, mark })
+}
+
+/// The end from bit 8, the count from bit 16, the mark from bit 48.
+fn packed((end, state): (End, State)) -> u64 {
+    (end as u64) << 8 | (state.count as u64) << 16 | (state.mark as u64) << 48
 }
 
 pub fn run_machine(code: &[u8], memory: &mut [i32], depth: usize, budget: u32) -> u64 {
-    run(0x50, code, &mut Cells { cells: memory, depth }, depth, budget)
+    packed(run(0x50, code, &mut Cells { cells: memory, depth }, depth, State::default(), budget))
 }
 
 pub fn run_assembly(code: &[u8], store: &mut [i32], stack: &mut [i32], budget: u32) -> u64 {
     let depth = stack.len();
-    run(0x40, code, &mut Assembly { store, stack }, depth, budget)
+    packed(run(0x40, code, &mut Assembly { store, stack }, depth, State::default(), budget))
+}
+
+/// A state's words: position, stack size, count, mark, and three that are written 0.
+pub type Words = [u32; 7];
+
+/// Goes on from a state, which a spent run writes; refuses 9, 10, 11, 15.
+#[inline(never)]
+pub fn go_on(
+    code: &[u8],
+    memory: &mut [i32],
+    depth: usize,
+    cells: usize,
+    words: &mut Words,
+    budget: u32,
+) -> Result<u64, Refusal> {
+    compiler::whole(code)?;
+    compiler::known(code, cells)?;
+    if depth > 64 || cells > 64 || memory.len() != depth + 1 + cells {
+        return Err(Refusal(11, 0));
+    }
+    let limit = words[2].checked_add(budget).ok_or(Refusal(15, 0))?;
+    let from = State { position: words[0] as usize, size: words[1] as usize, count: words[2], mark: words[3] as usize };
+    if from.position > code.len() / 5 || from.size > from.mark || from.mark > depth {
+        return Err(Refusal(15, 0));
+    }
+    let (end, state) = run(0x50, code, &mut Cells { cells: memory, depth }, depth, from, limit);
+    if let End::Spent = end {
+        *words = [state.position as u32, state.size as u32, state.count, state.mark as u32, 0, 0, 0];
+    }
+    Ok(packed((end, state)))
 }

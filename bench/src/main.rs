@@ -5,6 +5,7 @@ mod cursor;
 mod executors;
 mod inspection;
 mod pairs;
+mod pieces;
 mod previews;
 mod reader;
 mod runs;
@@ -47,6 +48,10 @@ fn main() {
     previews::machine(&loops, 1_000_000);
     pairs::texts(&loops, 1_000_000);
     pairs::longest_code();
+    for piece in [10, 100, 1000] {
+        pieces::loops(&loops, 1_000_000, piece);
+    }
+    pieces::single(&profiles);
     tables::loading();
     tables::reading_back();
     inspection::codes(&[long.as_slice(), &profiles].concat());
