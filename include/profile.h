@@ -53,7 +53,8 @@ enum profile_refusal_number {
     PROFILE_BAD_MEMORY = 11,     /* D or n above 64, or a slice of the wrong length; not given by these three calls */
     PROFILE_BAD_TABLE = 12,      /* the table's nonzero entries are not 1 to n, once each */
     PROFILE_NO_HEIGHTS = 13,     /* an inspection: the stack has no heights; not given by these three calls */
-    PROFILE_NOT_PAIRED = 14      /* the table's n and the code's addresses disagree; not given by these three calls */
+    PROFILE_NOT_PAIRED = 14,     /* the table's n and the code's addresses disagree; not given by these three calls */
+    PROFILE_BAD_STATE = 15       /* a paused run's state does not fit; not given by these three calls */
 };
 
 /* A text is one command of at most PROFILE_TEXT_BYTES bytes. The first byte of each construct; v is a variable's byte, 0 to
