@@ -21,9 +21,10 @@ use Rattle.machine_step.specs.declared.Machine.{Machine}
 abbrev pub Tested : List ℕ → List ℤ → ℕ → ℕ → ℕ → Type 0
 Tested code m D n last = and-then (machine-tests code m D n) (λ P. gives (length P)) ≡ gives last
 
--- So did the tests of a call from a state
-abbrev pub TestedState : List ℕ → List ℤ → ℕ → ℕ → State → ℕ → ℕ → Type 0
-TestedState code m D n s budget last = and-then (state-tests code m D n s budget) (λ P. gives (length P)) ≡ gives last
+-- So did the tests of a call from a state with a budget, which is spent at the count `limit`
+abbrev pub TestedState : List ℕ → List ℤ → ℕ → ℕ → State → ℕ → ℕ → ℕ → Type 0
+TestedState code m D n s budget limit last =
+    (and-then (state-tests code m D n s budget) (λ P. gives (length P)) ≡ gives last) × (limit ≡ s .count + budget)
 
 -- A run is the run of the code's records, with the ticks that the count leaves of its limit
 abbrev pub Runs : Machine → ℕ → ℕ → List ℕ → List ℤ → ℕ → Result (Rules.Machine (List ℤ)) → Type 0

@@ -124,21 +124,22 @@ fn finish(
     }
 }
 
-// Runs the `last` records of code that passed the tests, from a state that passed them.
+// Runs the `last` records of code that passed the tests, from a state that passed them with a budget. `limit` is the state's
+// count and the budget together.
 fn resume(
     code: &[u8],
     memory: &mut [i32],
     depth: usize,
     last: usize,
     state: State,
-    budget: u32,
+    limit: u32,
 ) -> Progress
-    requires { ⌜ ((n : ℕ) × TestedState (now code) (now memory) depth n state budget last) ⌝ }
-    ensures { λ r. ⌜ ((n : ℕ) → TestedState (now (code .entry)) (now (memory .entry)) depth n state budget last
+    requires { ⌜ ((n : ℕ) × (budget : ℕ) × TestedState (now code) (now memory) depth n state budget limit last) ⌝ }
+    ensures { λ r. ⌜ ((n budget : ℕ)
+        → TestedState (now (code .entry)) (now (memory .entry)) depth n state budget limit last
         → (progress-answer r, now (memory .exit))
         ≡ go-on (now (code .entry)) (now (memory .entry)) depth n state budget) ⌝ }
 {
-    let limit = state.count + budget;
     finish(Machine::resumed(state), code, memory, depth, last, limit).progress()
 }
 
@@ -168,7 +169,10 @@ pub fn go_on(
 {
     match test_state(code, memory, depth, cells, state, budget) {
         Count::Refused(refusal) => Progress::Refused(refusal),
-        Count::Gives(last) => resume(code, memory, depth as usize, last, state, budget),
+        Count::Gives(last) => {
+            let limit = state.count + budget;
+            resume(code, memory, depth as usize, last, state, limit)
+        }
     }
 }
 
