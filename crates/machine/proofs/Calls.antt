@@ -29,7 +29,7 @@ use Rattle.machine.specs.Machine.{Machine, at as machine-at}
 use Rattle.machine.specs.Memories.{Assembly, machine-cells}
 use Rattle.machine.specs.Calls.{assembly-tests, assembly-run, run-assembly}
 use Rattle.machine.specs.Calls.{memory-fits, machine-tests, fresh-state, run-from, machine-run, Progress, tell}
-use Rattle.machine.specs.Calls.{progress, state-fits, state-tests, go-on, run-machine, ran-of, tells, told}
+use Rattle.machine.specs.Calls.{progress, state-fits, state-tests, go-on, run-machine, ran-of, told-answer, told}
 use Rattle.machine.specs.Claims.{InBounds}
 use Rattle.machine.specs.Pieces.{FreshRun}
 use Rattle.machine.specs.declared.State.{State}
@@ -294,7 +294,7 @@ told-ran End.spent k mark s = refl
 told-ran (fault e) k mark s = refl
 
 -- and of a call's answer
-pub told-of : {a : Answer Progress} {r : Answer Ran} {m : List ℤ} {x : Answer Progress × List ℤ} → r ≡ tells a
+pub told-of : {a : Answer Progress} {r : Answer Ran} {m : List ℤ} {x : Answer Progress × List ℤ} → r ≡ told-answer a
     → (a, m) ≡ x → (r, m) ≡ told x
 told-of {m = m} tells-it e = (λ i. (tells-it i, m)) ∙ ap told e
 

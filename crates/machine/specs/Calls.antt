@@ -52,6 +52,7 @@ machine-tests code memory D n =
 
 -- ---- Pausing, and going on
 
+-- A state (the code's own struct, machine/src/lib.rt) is a position, a stack size, a count and a mark.
 -- "A fresh machine has position 0, stack empty, count 0"; its stack has held nothing
 abbrev pub fresh-state : State
 fresh-state = record { position = 0; size = 0; count = 0; mark = 0 }
@@ -61,10 +62,11 @@ abbrev pub run-from : MachineCode → List ℤ → ℕ → State → ℕ → Res
 run-from P memory D s budget =
     run sum32 D (machine-cells D) P budget (s .mark) (machine-at (s .position) (s .size) memory)
 
+-- from a fresh machine
 abbrev pub machine-run : MachineCode → List ℤ → ℕ → ℕ → Result (Machine (List ℤ))
 machine-run P memory D budget = run-from P memory D fresh-state budget
 
--- What a call tells of it: the end, the count and the mark, or the state of a spent run
+-- What a call told-answer of it: the end, the count and the mark, or the state of a spent run
 pub data Progress : Type 0 where
   finished : Ran → Progress
   paused : State → Progress
@@ -92,7 +94,7 @@ state-tests code memory D n s budget =
     unless state-fits s (length P) D budget refuse 15 at 0 else
     gives P)
 
--- What the run tells; the memory as it is left
+-- What the run told-answer; the memory as it is left
 unfoldable pub go-on : List ℕ → List ℤ → ℕ → ℕ → State → ℕ → Answer Progress × List ℤ
 go-on code memory D n s budget =
     settle (state-tests code memory D n s budget)
@@ -108,9 +110,9 @@ unfoldable pub ran-of : Progress → Ran
 ran-of (finished r) = r
 ran-of (paused s) = ran End.spent (s .count) (s .mark)
 
-abbrev pub tells : Answer Progress → Answer Ran
-tells x = and-then x (λ p. gives (ran-of p))
+abbrev pub told-answer : Answer Progress → Answer Ran
+told-answer x = and-then x (λ p. gives (ran-of p))
 
 -- of a call, beside the memory as it is left
 abbrev pub told : Answer Progress × List ℤ → Answer Ran × List ℤ
-told x = (tells (x .0), x .1)
+told x = (told-answer (x .0), x .1)

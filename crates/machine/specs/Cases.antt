@@ -171,7 +171,7 @@ pub record Pauses : Type 0 where
   pub as-list : Gives (in-pieces five-and-seven at-first 2 0 fresh-state 1 (1 ∷ 9 ∷ [])) (done-at 3 2) with-sum
   pub with-zeros : Gives (in-pieces five-and-seven at-first 2 0 fresh-state 0 (1 ∷ 0 ∷ 1 ∷ 0 ∷ []))
       (paused (state 2 2 2 2)) with-both
-  pub stops-early : Gives (in-pieces five-and-seven at-first 2 0 fresh-state 3 (5 ∷ 6 ∷ [])) (done-at 3 2) with-sum
+  pub stops-early : Gives (in-pieces five-and-seven at-first 2 0 fresh-state 3 (1 ∷ [])) (done-at 3 2) with-sum
   -- a budget of 0 hands out the state that it was given
   pub nothing-done : Gives (go-on five-and-seven with-five 2 0 (state 1 1 1 1) 0) (paused (state 1 1 1 1)) with-five
   -- a position that equals the end is done at once, with its count, with and without budget

@@ -5,7 +5,7 @@ use base::Refusal;
 use base::Run;
 ghost use mathlib.Core.Path.{_≡_};
 ghost use Rattle.base.specs.Code.{run-answer};
-ghost use Rattle.machine.specs.Calls.{fresh-state, tells};
+ghost use Rattle.machine.specs.Calls.{fresh-state, told-answer};
 ghost use Rattle.machine.specs.Code.{progress-answer};
 
 // What a spent run hands out, and a later call takes: the position of the record due, the number of values on the stack, the
@@ -42,7 +42,7 @@ impl State {
 impl Progress {
     // The same without the state: a run's end, its count and its mark.
     pub fn run(self) -> Run
-        ensures { λ r. ⌜ run-answer r ≡ tells (progress-answer self) ⌝ }
+        ensures { λ r. ⌜ run-answer r ≡ told-answer (progress-answer self) ⌝ }
     {
         match self {
             Progress::Refused(refusal) => Run::Refused(refusal),

@@ -2,7 +2,7 @@
 use mathlib.Core.Path.{sym, ap}
 use borrow.Author.Needs.{needs}
 use Rattle.base.specs.Answers.{and-then}
-use Rattle.machine.specs.Calls.{ran-of, tells}
+use Rattle.machine.specs.Calls.{ran-of, told-answer}
 use Rattle.machine.specs.Code.{progress-answer}
 use Rattle.machine.specs.declared.Progress.{Progress}
 use Rattle.machine.proofs.Progress.run.Statement.{statement}
@@ -12,19 +12,19 @@ declined : tie.Need-returns
 unfolding and-then
 declined c =
     let is : tie.After-self = search in
-    ap (λ (p : Progress). tells (progress-answer p)) (sym (is .self .given .1))
+    ap (λ (p : Progress). told-answer (progress-answer p)) (sym (is .self .given .1))
 
 ended : tie.Need-returns-2
 unfolding and-then ran-of
 ended c =
     let is : tie.After-self2 = search in
-    ap (λ (p : Progress). tells (progress-answer p)) (sym (is .self2 .given .1))
+    ap (λ (p : Progress). told-answer (progress-answer p)) (sym (is .self2 .given .1))
 
 paused : tie.Need-returns-3
 unfolding and-then ran-of
 paused c =
     let is : tie.After-self3 = search in
-    ap (λ (p : Progress). tells (progress-answer p)) (sym (is .self3 .given .1))
+    ap (λ (p : Progress). told-answer (progress-answer p)) (sym (is .self3 .given .1))
 
 pub run-spec : {M : Type 1} → statement M
 run-spec =
