@@ -1,5 +1,5 @@
 -- Demand 3 in pieces (Pieces: RowsInPieces, PiecesFitted): pieces are one run (machine's `pieces`), in whatever row.
-use mathlib.Core.Path.{_≡_, sym, _∙_, ap}
+use mathlib.Core.Path.{sym, _∙_, ap}
 use Prim.Native.Nat.{_*_}
 use lib.ListN.{take}
 use Rattle.base.specs.Acts.{_>>=_, _>>_, give}

@@ -1,5 +1,6 @@
--- The two run calls by the answer of their tests: the answer from what each test finds; what was found, from the number
--- of records given; what the call then gives and leaves, the refusal and its memory untouched or the records' run.
+-- The run calls by the answer of their tests: the answer from what each test finds; what was found, from the number of
+-- records given; what the call then gives and leaves, the refusal and its memory untouched or the records' run. The run
+-- from a fresh machine is that from its state, which always passes (Pieces: FreshRun).
 use mathlib.Core.Path.{_≡_, refl, sym, _∙_, ap, subst}
 use mathlib.Core.Bool.{Bool, true, false}
 use mathlib.Core.List.{List}

@@ -1,6 +1,6 @@
--- Pausing and going on (Pieces: Pieces, PiecesFrom, GoesOn, HandsOut, FifteenAlone). The idea: a run with a + b ticks is a run
--- with a ticks, gone on with b where those were spent (`split`); the state that is handed out stands within its bounds
--- (`inside`), so the next call takes it.
+-- Pausing and going on (Pieces: Pieces, PiecesFrom, GoesOn, HandsOut, FifteenAlone). The idea: a run with a + b ticks is a
+-- run with a ticks, gone on with b where those were spent (`split`); the state that is handed out stands within its
+-- bounds (`inside`), so the next call takes it.
 use mathlib.Core.Path.{_≡_, refl, sym, _∙_, ap}
 use mathlib.Core.Logic.{_⊎_, inl, inr}
 use Prim.Native.Nat.{ℕ, _+_, _-_, _≤_, _<_}
@@ -11,27 +11,26 @@ use mathlib.Core.List.{List, [], _∷_}
 use lib.Dec.{leb, eqb}
 use lib.IntN.{ℤ}
 use lib.ListN.{length}
-use borrow.Author.Tests.{le-leb, lt-leb, leb-true}
+use borrow.Author.Tests.{lt-leb, leb-true}
 use Rattle.base.specs.Answers.{Answer, gives, refused, unless_refuse_at_else_, and-then}
 use Rattle.base.specs.Ends.{End, fault, Result, Ran, ran}
-use Rattle.base.proofs.Answers.{gives-one}
 use Rattle.base.proofs.Settled.{not-both, Gave, gave}
 use Rattle.word.specs.Sums.{sum32}
 use Rattle.record.specs.Records.{MachineCode}
 use Rattle.record.specs.Bytes.{machine-kind, whole-records, records-of}
 use Rattle.machine.specs.Machine.{Machine, at as machine-at, run}
 use Rattle.machine.specs.Memories.{machine-cells}
-use Rattle.machine.specs.Claims.{ahead, resume, InBounds}
+use Rattle.machine.specs.Claims.{resume, InBounds}
 use Rattle.machine.specs.Calls.{machine-tests, run-from, Progress, finished, paused, tell, progress, state-fits}
 use Rattle.machine.specs.Calls.{fresh-state, state-tests, go-on, run-machine, ran-of}
-use Rattle.machine.specs.Pieces.{after-piece, in-pieces, total, Pieces, PiecesFrom, Onward, GoesOn, HandsOut, Unfit}
-use Rattle.machine.specs.Pieces.{StateRefusals, FifteenAlone}
+use Rattle.machine.specs.Pieces.{after-piece, in-pieces, total, Pieces, PiecesFrom, GoesOn, HandsOut, Unfit}
+use Rattle.machine.specs.Pieces.{FifteenAlone}
 use Rattle.machine.specs.declared.State.{State}
 use Rattle.machine.proofs.Splitting.{split}
 use Rattle.machine.proofs.Exact.{left-most, spent-all}
 use Rattle.machine.proofs.Inside.{inside}
 use Rattle.machine.proofs.Marks.{highest}
-use Rattle.machine.proofs.Calls.{Bounded, length-kept, StateFound, state-passed, state-passes, first-refused, bounded}
+use Rattle.machine.proofs.Calls.{length-kept, StateFound, state-passed, state-passes, first-refused, bounded}
 use Rattle.machine.proofs.Calls.{state-declines, state-runs, told-ran}
 
 -- ---- Tests

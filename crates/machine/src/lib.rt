@@ -1,5 +1,6 @@
-// The stack machine's definitions and claims stand in specs/, their proofs in proofs/; the executors' code is machine_step's,
-// machine_run's and assembly_run's. Here are the state of a paused run, and the answer of a call that runs machine code.
+// The stack machine's definitions and claims stand in specs/, their proofs in proofs/; the executors' code is
+// machine_step's, machine_run's and assembly_run's. Here are the state of a paused run, and the answer of a call that runs
+// machine code.
 use base::End;
 use base::Refusal;
 use base::Run;
@@ -8,8 +9,8 @@ ghost use Rattle.base.specs.Code.{run-answer};
 ghost use Rattle.machine.specs.Calls.{fresh-state, told-answer};
 ghost use Rattle.machine.specs.Code.{progress-answer};
 
-// What a spent run hands out, and a later call takes: the position of the record due, the number of values on the stack, the
-// records counted, and the mark, the most values that there were.
+// What a spent run hands out, and a later call takes: the position of the record due, the number of values on the stack,
+// the records counted, and the mark, the most values that there were.
 pub struct State {
     pub position: usize,
     pub size: usize,
@@ -17,8 +18,8 @@ pub struct State {
     pub mark: usize,
 }
 
-// The answer of a call that runs machine code: a refusal; the run's end, its count and its mark; or, where it is spent, its
-// state.
+// The answer of a call that runs machine code: a refusal; the run's end, its count and its mark; or, where it is spent,
+// its state.
 pub enum Progress {
     Refused(Refusal),
     Ended { end: End, count: u32, mark: usize },

@@ -42,8 +42,8 @@ pub fn test(code: &[u8], memory: &[i32], depth: u64, cells: u64) -> Count
     record_test::test_machine(code, cells, memory_fits(memory.len(), depth, cells))
 }
 
-// Refusal 15's test: a position up to the end, a stack size up to the mark, a mark up to D, and a count that with the budget
-// stays within 32 bits.
+// Refusal 15's test: a position up to the end, a stack size up to the mark, a mark up to D, and a count that with the
+// budget stays within 32 bits.
 fn state_fits(state: State, last: usize, depth: u64, budget: u32) -> bool
     ensures { λ r. ⌜ r ≡ state-fits state last depth budget ⌝ }
 {
@@ -124,8 +124,8 @@ fn finish(
     }
 }
 
-// Runs the `last` records of code that passed the tests, from a state that passed them with a budget. `limit` is the state's
-// count and the budget together.
+// Runs the `last` records of code that passed the tests, from a state that passed them with a budget. `limit` is the
+// state's count and the budget together.
 fn resume(
     code: &[u8],
     memory: &mut [i32],
@@ -153,9 +153,9 @@ pub fn run_tested(code: &[u8], memory: &mut [i32], depth: usize, last: usize, bu
     resume(code, memory, depth, last, State::fresh(), budget).run()
 }
 
-// Runs machine code on from the state of a paused run, over the memory as that run left it, with D = `depth` stack cells and
-// n = `cells` addresses; the budget counts from the pause. A state that is made up and fits is run as well. Refuses 9, 10, 11,
-// 15, and then leaves the memory untouched.
+// Runs machine code on from the state of a paused run, over the memory as that run left it, with D = `depth` stack cells
+// and n = `cells` addresses; the budget counts from the pause. A state that is made up and fits is run as well. Refuses 9,
+// 10, 11, 15, and then leaves the memory untouched.
 pub fn go_on(
     code: &[u8],
     memory: &mut [i32],
