@@ -1,5 +1,6 @@
 /* A C host that runs a profile a few instructions at a time, as the pod does in its drive periods: it compiles the
  * profile, loads a store of zeros, runs the first piece, and goes on with each other from where the one before paused.
+ * The pod's library has no call that runs: the probes, which are for tests, stand in for it here.
  *
  *     pieces FILE BUDGET...
  *
@@ -13,7 +14,7 @@
 
 #include "profile.h"
 
-/* Of a state's seven words the first four are used here: position, stack size, count and mark. */
+/* Probes of crates/probe. */
 uint64_t probe_load(const uint8_t *table, size_t table_length, const int32_t *store, size_t store_length,
                     uint64_t depth, int32_t *memory, size_t memory_length);
 uint64_t probe_run_machine(const uint8_t *code, size_t code_length, int32_t *memory, size_t memory_length,
@@ -23,6 +24,7 @@ uint64_t probe_go_on(const uint8_t *code, size_t code_length, int32_t *memory, s
 uint64_t probe_read_back(const uint8_t *table, size_t table_length, const int32_t *memory, size_t memory_length,
                          uint64_t depth, int32_t *store, size_t store_length);
 
+/* Of a state's seven words the first four are position, stack size, count and mark; the rest are not used yet. */
 enum { POSITION, STACK_SIZE, WORDS = 7 };
 enum { SPENT = 1 };
 static const char *const ends[] = {"done", "spent", "range", "short", "full", "astray"};

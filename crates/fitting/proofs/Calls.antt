@@ -16,7 +16,7 @@ use Rattle.base.proofs.Settled.{unless-passed, needed, both, settled, preview-m
 use Rattle.source.specs.Rules.{Store}
 use Rattle.record.specs.Records.{MachineCode}
 use Rattle.record.specs.Bytes.{whole-records}
-use Rattle.machine.specs.Calls.{machine-tests, machine-run, run-machine, told}
+use Rattle.machine.specs.Calls.{machine-tests, machine-run, run-machine, without-state}
 use Rattle.machine.proofs.Calls.{machine-passed, machine-runs, keeps-length}
 use Rattle.compile.specs.Table.{named-in, is-table}
 use Rattle.fitting.specs.Loading.{read-back}
@@ -98,7 +98,7 @@ module _ (code : List ℕ) (memory : List ℤ) (D : ℕ) (t : List ℕ) (store :
 
     -- ---- The run on a copy of the memory, and reading back over a copy of the store
 
-    module _ (budget : ℕ) {a : Answer Ran} {m : List ℤ} (ran : (a, m) ≡ told (run-machine code memory D n budget)) where
+    module _ (budget : ℕ) {a : Answer Ran} {m : List ℤ} (ran : (a, m) ≡ without-state (run-machine code memory D n budget)) where
       pub reads-back : (gives n, read-back t D store m) ≡ read-back-call t m D store
       unfolding read-back-call
       reads-back =

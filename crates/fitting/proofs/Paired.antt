@@ -32,7 +32,7 @@ use Rattle.record.specs.Records.{MachineCode}
 use Rattle.record.specs.Bytes.{machine-kind, whole-records, record-count, records-of}
 use Rattle.record.proofs.Tested.{records-length}
 use Rattle.record.proofs.Written.{whole-written, written}
-use Rattle.machine.specs.Calls.{machine-tests, machine-run, run-machine, told}
+use Rattle.machine.specs.Calls.{machine-tests, machine-run, run-machine, without-state}
 use Rattle.machine.proofs.Calls.{machine-runs}
 use Rattle.compile.specs.Compilation.{ccomp}
 use Rattle.compile.specs.Table.{to-m-prog, table, named-in, agrees}
@@ -149,7 +149,7 @@ module _ (code t : List ℕ) (store : Store) (D budget : ℕ) where
 
     -- from what `run_machine` gives and leaves
     pub pair-runs-by : {a : Answer Ran} {m : List ℤ}
-        → (a, m) ≡ told (run-machine code (loaded t D (named-in t) store) D (named-in t) budget)
+        → (a, m) ≡ without-state (run-machine code (loaded t D (named-in t) store) D (named-in t) budget)
         → (a, read-back t D store m) ≡ run-paired code t store D budget
     pair-runs-by e =
         ap (λ (r : Answer Ran × List ℤ). (r .0, read-back t D store (r .1)))

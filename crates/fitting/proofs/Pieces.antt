@@ -6,7 +6,7 @@ use Rattle.base.specs.Acts.{_>>=_, _>>_, give}
 use Rattle.base.specs.Answers.{Answer}
 use Rattle.base.specs.Ends.{Ran}
 use Rattle.base.specs.Rows.{call, answered}
-use Rattle.machine.specs.Calls.{told}
+use Rattle.machine.specs.Calls.{without-state}
 use Rattle.machine.proofs.Pieces.{pieces}
 use Rattle.fitting.specs.Rows.{Lent, buffers, compiling, loading, reading-back, fit}
 use Rattle.fitting.specs.Pieces.{fit-in-pieces, RowsInPieces, PiecesFitted}
@@ -18,7 +18,7 @@ rows-in-pieces text l b bs k = λ i. answered ((do
   z ← compiling text
   loading z
   ran ← (λ l.
-      let r = told (pieces (take (5 * z .records) (l .code)) (l .memory) (z .depth) (z .cells) b bs k i) in
+      let r = without-state (pieces (take (5 * z .records) (l .code)) (l .memory) (z .depth) (z .cells) b bs k i) in
       call (r .0) (buffers (l .code) (l .table) (r .1) (l .store)))
   reading-back z
   give ran) l)

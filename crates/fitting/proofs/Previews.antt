@@ -13,7 +13,7 @@ use Rattle.text.proofs.Accepted.{accepted}
 use Rattle.source.specs.Rules.{Store, run-rules}
 use Rattle.source.specs.Calls.{source-tests, run-source, preview-source}
 use Rattle.source.proofs.Calls.{source-runs}
-use Rattle.machine.specs.Calls.{machine-tests, run-machine, told}
+use Rattle.machine.specs.Calls.{machine-tests, run-machine, without-state}
 use Rattle.machine.proofs.Calls.{fresh-run}
 use Rattle.compile.specs.Table.{named-in}
 use Rattle.compile.specs.Calls.{Compiled}
@@ -45,7 +45,7 @@ source-previewed text store budget ran s = (
 module _ (code : List ℕ) (memory : List ℤ) (D : ℕ) (t : List ℕ) (store : Store) (budget : ℕ) (ran : Ran) (s : Store)
   where
     abbrev Made : Type 0
-    Made = (m : List ℤ) × (told (run-machine code memory D (named-in t) budget) ≡ (gives ran, m))
+    Made = (m : List ℤ) × (without-state (run-machine code memory D (named-in t) budget) ≡ (gives ran, m))
         × (read-back-call t m D store ≡ (gives (named-in t), s))
 
     made : preview-machine code memory D t store budget ≡ (gives ran, s) → Made
@@ -53,7 +53,7 @@ module _ (code : List ℕ) (memory : List ℤ) (D : ℕ) (t : List ℕ) (store :
     made e =
         let g = preview-gave (preview-tests code memory D t store) _ e in
         let p = preview-passed code memory D t store (g .1) in
-        let run = told (run-machine code memory D (named-in t) budget) in
+        let run = without-state (run-machine code memory D (named-in t) budget) in
         let back = reads-back code memory D t store p budget refl in
         (run .1, (λ i. (g .2 i .0, run .1)), (λ i. (sym back i .0, g .2 i .1)))
 

@@ -24,7 +24,7 @@ use Rattle.record.specs.Records.{MachineCode}
 use Rattle.record.specs.Bytes.{machine-kind, over}
 use Rattle.record.proofs.Written.{whole-written, written}
 use Rattle.machine.specs.Machine.{Machine}
-use Rattle.machine.specs.Calls.{memory-fits, machine-tests, machine-run, run-machine, told}
+use Rattle.machine.specs.Calls.{memory-fits, machine-tests, machine-run, run-machine, without-state}
 use Rattle.machine.proofs.Calls.{machine-passed, machine-runs, keeps-length}
 use Rattle.compile.specs.Compilation.{ccomp}
 use Rattle.compile.specs.Table.{to-m-prog, table}
@@ -178,7 +178,7 @@ module _ (text : List ℕ) (c : Command) (read : read-text text ≡ gives c) (w 
       })
       budget
       (machine-runs (take (5 * records c) out) ready-memory D n budget tested-written
-      ∙ ap (λ k. told (run-machine (take (5 * records c) out) ready-memory D k budget)) (sym own))
+      ∙ ap (λ k. without-state (run-machine (take (5 * records c) out) ready-memory D k budget)) (sym own))
 
   pub preview-row : load-and-preview text (buffers (lent .code) (lent .table) memory store) budget
       ≡ (gives (report budget ran, read-back t D store (ran .leaves .memory)), with-memory ready-memory)

@@ -10,7 +10,7 @@ use Rattle.base.specs.Ends.{Ran}
 use Rattle.source.specs.Rules.{Store}
 use Rattle.record.specs.Records.{MachineCode}
 use Rattle.record.specs.Bytes.{whole-records}
-use Rattle.machine.specs.Calls.{memory-fits, machine-tests, run-machine, told}
+use Rattle.machine.specs.Calls.{memory-fits, machine-tests, run-machine, without-state}
 use Rattle.compile.specs.Table.{named-in, is-table}
 use Rattle.fitting.specs.Loading.{loaded, read-back}
 
@@ -50,6 +50,6 @@ preview-tests code memory D t store =
 -- "Reads back over a copy of that store": `run_machine` on a copy of the memory, and then `read_back`
 unfoldable pub preview-machine : List ℕ → List ℤ → ℕ → List ℕ → Store → ℕ → Answer Ran × Store
 preview-machine code memory D t store budget =
-    let run = told (run-machine code memory D (named-in t) budget) in
+    let run = without-state (run-machine code memory D (named-in t) budget) in
     let back = read-back-call t (run .1) D store in
     previewed (preview-tests code memory D t store) (run .0, back .1)

@@ -13,7 +13,7 @@ use Rattle.text.specs.Encoding.{Bytes}
 use Rattle.text.specs.Sizes.{depth, cells}
 use Rattle.source.specs.Rules.{Store}
 use Rattle.source.specs.Calls.{run-source, preview-source}
-use Rattle.machine.specs.Calls.{run-machine, told}
+use Rattle.machine.specs.Calls.{run-machine, without-state}
 use Rattle.compile.specs.Compilation.{ccomp}
 use Rattle.compile.specs.Table.{table, named-in}
 use Rattle.fitting.specs.Loading.{loaded}
@@ -32,7 +32,7 @@ abbrev pub MachinePreviewed : Type 0
 MachinePreviewed = (code : List ℕ) (memory : List ℤ) (D : ℕ) (t : List ℕ) (store : Store) (budget : ℕ)
     (ran : Ran) (s : Store)
     → (preview-machine code memory D t store budget ≡ (gives ran, s))
-    ↔ ((m : List ℤ) × (told (run-machine code memory D (named-in t) budget) ≡ (gives ran, m))
+    ↔ ((m : List ℤ) × (without-state (run-machine code memory D (named-in t) budget) ≡ (gives ran, m))
     × (read-back-call t m D store ≡ (gives (named-in t), s)))
 
 -- The two previews of one text, the machine's after compiling and loading, from the same store under the same budget:

@@ -12,7 +12,7 @@ use Rattle.base.specs.Rows.{Row, call, answered}
 use Rattle.text.specs.declared.Sizes.{Sizes}
 use Rattle.source.specs.Rules.{Store}
 use Rattle.machine.specs.Memories.{Assembly}
-use Rattle.machine.specs.Calls.{run-assembly, run-machine, told}
+use Rattle.machine.specs.Calls.{run-assembly, run-machine, without-state}
 use Rattle.compile.specs.Calls.{Compiled, assemble, compile, go-back}
 use Rattle.fitting.specs.Calls.{load, read-back-call, preview-machine}
 
@@ -39,10 +39,10 @@ loading z l =
     let r = load (l .table) (l .store) (z .depth) (l .memory) in
     call (r .0) (buffers (l .code) (l .table) (r .1) (l .store))
 
--- "running, from a fresh machine, the records written"
+-- "running, from a fresh machine, the records written"; a spent run's state is not kept
 abbrev pub running : Sizes → ℕ → Row Lent Ran
 running z budget l =
-    let r = told (run-machine (take (5 * z .records) (l .code)) (l .memory) (z .depth) (z .cells) budget) in
+    let r = without-state (run-machine (take (5 * z .records) (l .code)) (l .memory) (z .depth) (z .cells) budget) in
     call (r .0) (buffers (l .code) (l .table) (r .1) (l .store))
 
 -- "reading back into the starting store"

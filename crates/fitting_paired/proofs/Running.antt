@@ -9,7 +9,7 @@ use Rattle.base.specs.Answers.{Answer, gives, and-then}
 use Rattle.base.specs.Ends.{Ran}
 use Rattle.text.specs.declared.Sizes.{Sizes}
 use Rattle.source.specs.Rules.{Store}
-use Rattle.machine.specs.Calls.{machine-tests, run-machine, told}
+use Rattle.machine.specs.Calls.{machine-tests, run-machine, without-state}
 use Rattle.machine.proofs.Calls.{number-given}
 use Rattle.compile.specs.Table.{named-in}
 use Rattle.fitting.specs.Loading.{fill, loaded, read-back}
@@ -87,9 +87,9 @@ module _ (code t : List ℕ) (store : Store) (z : Sizes) (tested : paired-tests 
 
       -- and what is read back from its run is the call's
       pub read-back-is : (budget : ℕ) {a : Answer Ran} {m : List ℤ} {left : Store}
-          → (a, m) ≡ told (run-machine code filled D (named-in t) budget) → left ≡ read-back t D store m
+          → (a, m) ≡ without-state (run-machine code filled D (named-in t) budget) → left ≡ read-back t D store m
           → (a, left) ≡ run-paired code t store D budget
       read-back-is budget {a} f g =
           ap (λ left. (a, left)) g
           ∙ pair-runs-by code t store D budget found
-          (f ∙ ap (λ m. told (run-machine code m D (named-in t) budget)) is-loaded)
+          (f ∙ ap (λ m. without-state (run-machine code m D (named-in t) budget)) is-loaded)

@@ -37,7 +37,7 @@ fn run_and_read_back(
     let size = RECORD_BYTES * sizes.records;
     let depth = sizes.depth as u64;
     let cells = sizes.cells as u64;
-    match machine_run::run_machine(&code[..size], memory, depth, cells, budget).run() {
+    match machine_run::run_machine(&code[..size], memory, depth, cells, budget).without_state() {
         Run::Refused(refusal) => Run::Refused(refusal),
         Run::Ended { end, count, mark } => {
             match fitting_load::read_back(table, memory, depth, store) {

@@ -29,8 +29,10 @@ use Rattle.record.specs.Bytes.{machine-kind, whole-records, records-of}
 use Rattle.record.specs.declared.Address.{Address}
 use Rattle.record.proofs.Written.{whole-written, written}
 use Rattle.machine.specs.Memories.{machine-cells}
-use Rattle.machine.specs.Calls.{machine-tests, machine-run}
+use Rattle.machine.specs.Calls.{machine-tests, machine-run, run-machine}
+use Rattle.machine.specs.Pieces.{total}
 use Rattle.machine.proofs.Calls.{number-given, counted, refused-by, CodeFound, code-found, machine-runs}
+use Rattle.machine.proofs.Pieces.{pieces}
 use Rattle.compile.specs.Compilation.{ccomp}
 use Rattle.compile.specs.Table.{to-m-prog}
 use Rattle.compile.specs.Calls.{machine-bytes}
@@ -38,7 +40,7 @@ use Rattle.compile.proofs.Calls.{machine-count, wrote}
 use Rattle.compile.proofs.Codes.{codes}
 use Rattle.inspection.specs.Heights.{Passing}
 use Rattle.inspection.specs.Calls.{inspect-tests, Judged, After, Inspected}
-use Rattle.inspection.specs.Claims.{TextsPass, OneAnswer, Inspects, RunsSafely}
+use Rattle.inspection.specs.Claims.{TextsPass, OneAnswer, Inspects, InspectsInPieces, RunsSafely}
 use Rattle.inspection.proofs.Judging.{judged-passes, judged-fails}
 use Rattle.inspection.proofs.Compiled.{commands-pass}
 use Rattle.inspection.proofs.Soundness.{sound}
@@ -176,7 +178,7 @@ module _ (code : List ℕ) (D n k : ℕ) (memory : List ℤ) (long : length memo
       let f = passed code D n e in
       simp (f .whole, f .given, f .deep, f .small, eq-eqb (length memory) (D + 1 + n) long)
 
-  pub safely : Inspected code D n (gives k) → RunsSafely code memory D n budget
+  pub safely : Inspected code D n (gives k) → RunsSafely code D n (run-machine code memory D n budget)
   safely j =
       let x = given (inspect-tests code D n) j in
       let P = x .0 in
@@ -193,3 +195,7 @@ module _ (code : List ℕ) (D n k : ℕ) (memory : List ℤ) (long : length memo
 
 pub inspects : Inspects
 inspects code D n k j memory long budget = safely code D n k memory long budget j
+
+pub inspects-in-pieces : InspectsInPieces
+inspects-in-pieces code D n k j memory long b bs fits =
+    subst (RunsSafely code D n) (sym (pieces code memory D n b bs fits)) (inspects code D n k j memory long (total b bs))

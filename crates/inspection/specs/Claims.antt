@@ -17,7 +17,8 @@ use Rattle.text.specs.Sizes.{depth}
 use Rattle.text.specs.declared.Sizes.{Sizes}
 use Rattle.record.specs.Records.{Record, MachineCode}
 use Rattle.machine.specs.Machine.{Memory, Machine, at, fresh, act, run}
-use Rattle.machine.specs.Calls.{run-machine, told}
+use Rattle.machine.specs.Calls.{fresh-state, Told, run-machine, without-state}
+use Rattle.machine.specs.Pieces.{in-pieces, total}
 use Rattle.compile.specs.Compilation.{ccomp}
 use Rattle.compile.specs.Table.{to-m-prog}
 use Rattle.compile.specs.Calls.{Compiled, compile}
@@ -78,19 +79,27 @@ abbrev pub OneHeight : Type 1
 OneHeight = (Name : Type 0) (D : ℕ) (P : List (Record Name)) (h h′ : ℕ → ℕ) → Heights D P h → Heights D P h′
     → (p : ℕ) → Reached P p → (h p ≡ h′ p) × (h p ≤ D)
 
--- `Sound`, of the calls: code that `inspect` passes, run by `run_machine` on any memory of D + 1 + n cells.
-pub record RunsSafely (code : List ℕ) (memory : List ℤ) (D n budget : ℕ) : Type 0 where
+-- `Sound`, of the calls: code that `inspect` passes, and the answer of a call that runs it
+pub record RunsSafely (code : List ℕ) (D n : ℕ) (call : Answer Told × List ℤ) : Type 0 where
   pub records : MachineCode
   pub tested : inspect-tests code D n ≡ gives records
   pub h : ℕ → ℕ
   pub heights : Heights D records h
   pub ran : Ran
-  pub given : told (run-machine code memory D n budget) .0 ≡ gives ran
+  pub given : without-state call .0 ≡ gives ran
   pub safely : SafeRun records h (ran .end) (ran .mark)
 
+-- by `run_machine`, on any memory of D + 1 + n cells,
 abbrev pub Inspects : Type 0
 Inspects = (code : List ℕ) (D n k : ℕ) → Inspected code D n (gives k)
-    → (memory : List ℤ) → length memory ≡ D + 1 + n → (budget : ℕ) → RunsSafely code memory D n budget
+    → (memory : List ℤ) → length memory ≡ D + 1 + n
+    → (budget : ℕ) → RunsSafely code D n (run-machine code memory D n budget)
+
+-- and in pieces (document 02, W7).
+abbrev pub InspectsInPieces : Type 0
+InspectsInPieces = (code : List ℕ) (D n k : ℕ) → Inspected code D n (gives k)
+    → (memory : List ℤ) → length memory ≡ D + 1 + n → (b : ℕ) (bs : List ℕ) → total b bs ≤ 4294967295
+    → RunsSafely code D n (in-pieces code memory D n fresh-state b bs)
 
 -- ---- Compiled code
 

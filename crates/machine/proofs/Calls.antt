@@ -29,8 +29,8 @@ use Rattle.record.proofs.Tested.{records-length}
 use Rattle.machine.specs.Machine.{Machine, at as machine-at}
 use Rattle.machine.specs.Memories.{Assembly, machine-cells}
 use Rattle.machine.specs.Calls.{assembly-tests, assembly-run, run-assembly}
-use Rattle.machine.specs.Calls.{memory-fits, machine-tests, fresh-state, run-from, machine-run, Progress, tell}
-use Rattle.machine.specs.Calls.{progress, state-fits, state-tests, go-on, run-machine, ran-of, told-answer, told}
+use Rattle.machine.specs.Calls.{memory-fits, machine-tests, fresh-state, run-from, machine-run, Told, tell}
+use Rattle.machine.specs.Calls.{piece-told, state-fits, state-tests, go-on, run-machine, ran-of, answer-without-state, without-state}
 use Rattle.machine.specs.Claims.{InBounds}
 use Rattle.machine.specs.Pieces.{FreshRun}
 use Rattle.machine.specs.declared.State.{State}
@@ -281,7 +281,7 @@ module _ (code : List ℕ) (m : List ℤ) (D n : ℕ) (s : State) (budget : ℕ)
 
   pub state-runs : {P : MachineCode} → state-tests code m D n s budget ≡ gives P
       → let r = run-from P m D s budget in
-      (gives (progress s budget r), r .leaves .memory) ≡ go-on code m D n s budget
+      (gives (piece-told s budget r), r .leaves .memory) ≡ go-on code m D n s budget
   unfolding go-on
   state-runs e = settled (state-tests code m D n s budget) _ _ m e refl
 
@@ -295,9 +295,9 @@ told-ran End.spent k mark s = refl
 told-ran (fault e) k mark s = refl
 
 -- and of a call's answer
-pub told-of : {a : Answer Progress} {r : Answer Ran} {m : List ℤ} {x : Answer Progress × List ℤ} → r ≡ told-answer a
-    → (a, m) ≡ x → (r, m) ≡ told x
-told-of {m = m} tells-it e = (λ i. (tells-it i, m)) ∙ ap told e
+pub without-state-of : {a : Answer Told} {r : Answer Ran} {m : List ℤ} {x : Answer Told × List ℤ} → r ≡ answer-without-state a
+    → (a, m) ≡ x → (r, m) ≡ without-state x
+without-state-of {m = m} tells-it e = (λ i. (tells-it i, m)) ∙ ap without-state e
 
 module _ (code : List ℕ) (m : List ℤ) (D n budget : ℕ) where
   fresh-found : {P : MachineCode} → machine-tests code m D n ≡ gives P → StateFound code m D n fresh-state budget P
@@ -318,26 +318,26 @@ module _ (code : List ℕ) (m : List ℤ) (D n budget : ℕ) where
       ap (λ (s : State). number-given (state-tests code m D n s budget)) is
       ∙ ap number-given (state-passes code m D n fresh-state budget (fresh-found (c .given))) ∙ c .then-gives
 
-  pub from-fresh : {s : State} {a : Answer Progress} {m′ : List ℤ} → s ≡ fresh-state
+  pub from-fresh : {s : State} {a : Answer Told} {m′ : List ℤ} → s ≡ fresh-state
       → (a, m′) ≡ go-on code m D n s budget → (a, m′) ≡ run-machine code m D n budget
   unfolding run-machine
   from-fresh is e = e ∙ ap (λ (s : State). go-on code m D n s budget) is
 
   pub machine-declines : {number place : ℕ} → machine-tests code m D n ≡ refused number place
-      → (refused number place, m) ≡ told (run-machine code m D n budget)
+      → (refused number place, m) ≡ without-state (run-machine code m D n budget)
   unfolding run-machine and-then
   machine-declines e =
-      ap told (state-declines code m D n fresh-state budget (first-refused code m D n fresh-state budget e))
+      ap without-state (state-declines code m D n fresh-state budget (first-refused code m D n fresh-state budget e))
 
   pub machine-runs : {P : MachineCode} → machine-tests code m D n ≡ gives P
       → let r = machine-run P m D budget in
-      (gives (report budget r), r .leaves .memory) ≡ told (run-machine code m D n budget)
+      (gives (report budget r), r .leaves .memory) ≡ without-state (run-machine code m D n budget)
   unfolding run-machine and-then
   machine-runs {P} e =
       let r = machine-run P m D budget in
       (λ i. (gives (ran (r .end) (sym (zero-add (budget - r .left)) i) (r .mark)), r .leaves .memory))
       ∙ (λ i. (gives (sym (told-ran (r .end) (0 + (budget - r .left)) (r .mark) (r .leaves)) i), r .leaves .memory))
-      ∙ ap told (state-runs code m D n fresh-state budget (state-passes code m D n fresh-state budget (fresh-found e)))
+      ∙ ap without-state (state-runs code m D n fresh-state budget (state-passes code m D n fresh-state budget (fresh-found e)))
 
 -- A run keeps the memory's length.
 pub keeps-length : (P : MachineCode) (m : List ℤ) (D budget : ℕ)
@@ -350,7 +350,7 @@ pub fresh-run : FreshRun
 fresh-run code m D n budget = by (machine-tests code m D n) refl
   where
     by : (x : Answer MachineCode) → machine-tests code m D n ≡ x
-        → told (run-machine code m D n budget)
+        → without-state (run-machine code m D n budget)
         ≡ settle (machine-tests code m D n) (λ P. report budget (machine-run P m D budget))
         (λ P. machine-run P m D budget .leaves .memory) m
     by (gives P) e =

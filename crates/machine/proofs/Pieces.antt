@@ -21,7 +21,7 @@ use Rattle.record.specs.Bytes.{machine-kind, whole-records, records-of}
 use Rattle.machine.specs.Machine.{Machine, at as machine-at, run}
 use Rattle.machine.specs.Memories.{machine-cells}
 use Rattle.machine.specs.Claims.{resume, InBounds}
-use Rattle.machine.specs.Calls.{machine-tests, run-from, Progress, finished, paused, tell, progress, state-fits}
+use Rattle.machine.specs.Calls.{machine-tests, run-from, Told, finished, paused, tell, piece-told, state-fits}
 use Rattle.machine.specs.Calls.{fresh-state, state-tests, go-on, run-machine, ran-of}
 use Rattle.machine.specs.Pieces.{after-piece, in-pieces, total, Pieces, PiecesFrom, GoesOn, HandsOut, Unfit}
 use Rattle.machine.specs.Pieces.{FifteenAlone}
@@ -48,9 +48,9 @@ same-tests code D n m m′ h = λ i.
 -- ---- What a call from a state gives
 
 -- what was found by one that gives p, and the run that it is of
-module _ (code : List ℕ) (m : List ℤ) (D n : ℕ) (s : State) (budget : ℕ) (p : Progress) (m′ : List ℤ)
+module _ (code : List ℕ) (m : List ℤ) (D n : ℕ) (s : State) (budget : ℕ) (p : Told) (m′ : List ℤ)
     (e : go-on code m D n s budget ≡ (gives p, m′)) where
-  gone : Gave (state-tests code m D n s budget) (λ P. progress s budget (run-from P m D s budget))
+  gone : Gave (state-tests code m D n s budget) (λ P. piece-told s budget (run-from P m D s budget))
       (λ P. run-from P m D s budget .leaves .memory) p m′
   unfolding go-on
   gone = gave (state-tests code m D n s budget) _ _ m (sym e)
@@ -92,7 +92,7 @@ goes-on code m D n s budget p m′ e = record {
 -- ---- A pause
 
 -- the state of a pause, or else s
-state-or : State → Progress → State
+state-or : State → Told → State
 state-or s (paused t) = t
 state-or s (finished r) = s
 
@@ -110,7 +110,7 @@ pause-of s (fault e) k mark m h = absurd (let no : _≡_ {A = ℕ} 0 1 = cc in o
 pub hands-out : HandsOut
 hands-out code m D n s budget s′ m′ e = record {
   all-spent = count;
-  taken = λ more fits. (
+  passes = λ more fits. (
     P code m D n s budget (paused s′) m′ e,
     state-passes code m′ D n s′ more (record {
       records = same-tests code D n m′ m (as-long code m D n s budget (paused s′) m′ e)
@@ -150,12 +150,12 @@ hands-out code m D n s budget s′ m′ e = record {
 -- ---- Two pieces are one
 
 module _ (a b : ℕ) (code : List ℕ) (m : List ℤ) (D n : ℕ) (s : State) (k : s .count + (a + b) ≤ 4294967295) where
-  abbrev two-calls : Answer Progress × List ℤ
+  abbrev two-calls : Answer Told × List ℤ
   two-calls = after-piece (go-on code m D n s a) (λ s′ m′. go-on code m′ D n s′ b)
 
   module _ (P : MachineCode) (f : StateFound code m D n s a P) where
-    abbrev told-of : Result (Machine (List ℤ)) → Answer Progress × List ℤ
-    told-of r = (gives (progress s (a + b) r), r .leaves .memory)
+    abbrev told-of : Result (Machine (List ℤ)) → Answer Told × List ℤ
+    told-of r = (gives (piece-told s (a + b) r), r .leaves .memory)
 
     -- by the end of the first
     by-end : (x : End) (left h : ℕ) (t : Machine (List ℤ)) → (x ≡ End.spent → left ≡ 0)
@@ -240,7 +240,7 @@ module _ (a b : ℕ) (code : List ℕ) (m : List ℤ) (D n : ℕ) (s : State) (k
 -- ---- Pieces
 
 -- what follows a piece may use what the pause says
-after-same : (x : Answer Progress × List ℤ) (f g : State → List ℤ → Answer Progress × List ℤ)
+after-same : (x : Answer Told × List ℤ) (f g : State → List ℤ → Answer Told × List ℤ)
     → ((s : State) (m : List ℤ) → x ≡ (gives (paused s), m) → f s m ≡ g s m) → after-piece x f ≡ after-piece x g
 unfolding after-piece
 after-same (gives (paused s), m) f g h = h s m refl
@@ -306,14 +306,14 @@ module _ (code : List ℕ) (m : List ℤ) (D n : ℕ) (s : State) (budget : ℕ)
       (decLt 4294967295 (s .count + budget))
 
   runs-fit : StateFound code m D n s budget P → let r = run-from P m D s budget in
-      go-on code m D n s budget ≡ (gives (progress s budget r), r .leaves .memory)
+      go-on code m D n s budget ≡ (gives (piece-told s budget r), r .leaves .memory)
   runs-fit f = sym (state-runs code m D n s budget (state-passes code m D n s budget f))
 
   refused-unfit : go-on code m D n s budget ≡ (refused 15 0, m) → Unfit s (length P) D budget
   refused-unfit h = elim unfit-or-passes [ inl u ↦ u | inr f ↦ not-both (ap (λ x. x .0) (sym h ∙ runs-fit f)) ]
 
   else-run : (Unfit s (length P) D budget → ⊥) → let r = run-from P m D s budget in
-      go-on code m D n s budget ≡ (gives (progress s budget r), r .leaves .memory)
+      go-on code m D n s budget ≡ (gives (piece-told s budget r), r .leaves .memory)
   else-run none = elim unfit-or-passes [ inl u ↦ absurd (none u) | inr f ↦ runs-fit f ]
 
 pub fifteen-alone : FifteenAlone

@@ -36,7 +36,7 @@ run-assembly code m budget =
     settle (assembly-tests code m)
     (λ P. report budget (assembly-run P m budget)) (λ P. assembly-run P m budget .leaves .memory) m
 
--- ---- Machine code
+-- ---- Machine code. The call `run-machine` stands below: it is `go-on` from a fresh machine
 
 -- 11: "D or n above 64, or slice length wrong": "machine memory has D + 1 + n cells"
 abbrev pub memory-fits : ℕ → ℕ → List ℤ → Bool
@@ -66,26 +66,29 @@ run-from P memory D s budget =
 abbrev pub machine-run : MachineCode → List ℤ → ℕ → ℕ → Result (Machine (List ℤ))
 machine-run P memory D budget = run-from P memory D fresh-state budget
 
--- What a call told-answer of it: the end, the count and the mark, or the state of a spent run
-pub data Progress : Type 0 where
-  finished : Ran → Progress
-  paused : State → Progress
+-- What a call tells of a run: the end, the count and the mark, or the state of a spent one
+pub data Told : Type 0 where
+  finished : Ran → Told
+  paused : State → Told
 
 -- "A spent machine run hands out its position, stack size, count and depth mark"
-unfoldable pub tell : End → ℕ → ℕ → Machine (List ℤ) → Progress
+unfoldable pub tell : End → ℕ → ℕ → Machine (List ℤ) → Told
 tell End.done k mark s = finished (ran End.done k mark)
 tell End.spent k mark s = paused (record { position = s .position; size = s .size; count = k; mark = mark })
 tell (fault e) k mark s = finished (ran (fault e) k mark)
 
 -- The count goes on from the state's
-abbrev pub progress : State → ℕ → Result (Machine (List ℤ)) → Progress
-progress s budget r = tell (r .end) (s .count + (budget - r .left)) (r .mark) (r .leaves)
+abbrev pub piece-told : State → ℕ → Result (Machine (List ℤ)) → Told
+piece-told s budget r = tell (r .end) (s .count + (budget - r .left)) (r .mark) (r .leaves)
 
 -- 15: "a position past the end, a stack size above the depth mark, a depth mark above D, or a count that with the budget
--- passes 4294967295", which is one above what the budget leaves of it
+-- passes 4294967295". The last is written as: the count is above what the budget leaves of 4294967295. So the count of a
+-- fresh machine, 0, passes under every budget, those past 32 bits too; `FifteenAlone` (Pieces) has the sentence with the
+-- sum
 abbrev pub state-fits : State → ℕ → ℕ → ℕ → Bool
 state-fits s last D budget =
-    leb (s .position) last && (leb (s .size) (s .mark) && (leb (s .mark) D && leb (s .count) (4294967295 - budget)))
+    leb (s .position) last && (leb (s .size) (s .mark)
+    && (leb (s .mark) D && leb (s .count) (4294967295 - budget)))
 
 -- Refusals: 9, 10, 11; and "15, after 11"
 unfoldable pub state-tests : List ℕ → List ℤ → ℕ → ℕ → State → ℕ → Answer MachineCode
@@ -94,25 +97,25 @@ state-tests code memory D n s budget =
     unless state-fits s (length P) D budget refuse 15 at 0 else
     gives P)
 
--- What the run told-answer; the memory as it is left
-unfoldable pub go-on : List ℕ → List ℤ → ℕ → ℕ → State → ℕ → Answer Progress × List ℤ
+-- "A later call takes them with the same code, memory, D and n": what the run tells, and the memory as it is left
+unfoldable pub go-on : List ℕ → List ℤ → ℕ → ℕ → State → ℕ → Answer Told × List ℤ
 go-on code memory D n s budget =
     settle (state-tests code memory D n s budget)
-    (λ P. progress s budget (run-from P memory D s budget)) (λ P. run-from P memory D s budget .leaves .memory) memory
+    (λ P. piece-told s budget (run-from P memory D s budget)) (λ P. run-from P memory D s budget .leaves .memory) memory
 
--- From a fresh machine, whose state passes 15's test under every budget
-unfoldable pub run-machine : List ℕ → List ℤ → ℕ → ℕ → ℕ → Answer Progress × List ℤ
+-- The same from a fresh machine, whose state passes 15's test under every budget
+unfoldable pub run-machine : List ℕ → List ℤ → ℕ → ℕ → ℕ → Answer Told × List ℤ
 run-machine code memory D n budget = go-on code memory D n fresh-state budget
 
--- ---- A run's end, count and mark alone
+-- ---- The answer without the state: a run's end, count and mark alone
 
-unfoldable pub ran-of : Progress → Ran
+unfoldable pub ran-of : Told → Ran
 ran-of (finished r) = r
 ran-of (paused s) = ran End.spent (s .count) (s .mark)
 
-abbrev pub told-answer : Answer Progress → Answer Ran
-told-answer x = and-then x (λ p. gives (ran-of p))
+abbrev pub answer-without-state : Answer Told → Answer Ran
+answer-without-state x = and-then x (λ p. gives (ran-of p))
 
 -- of a call, beside the memory as it is left
-abbrev pub told : Answer Progress × List ℤ → Answer Ran × List ℤ
-told x = (told-answer (x .0), x .1)
+abbrev pub without-state : Answer Told × List ℤ → Answer Ran × List ℤ
+without-state x = (answer-without-state (x .0), x .1)

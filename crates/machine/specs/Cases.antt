@@ -1,6 +1,6 @@
 -- Small codes that come to each end, on both memories (document 01, "Executors"). They name no variable and no address,
--- so the same rows serve assembly and machine code. Then where the calls decline ("When a call declines"), and runs in pieces
--- (document 02, W7).
+-- so the same rows serve assembly and machine code. Then where the calls decline ("When a call declines"), and runs in
+-- pieces (document 02, W7).
 use mathlib.Core.Path.{_≡_}
 use Prim.Native.Nat.{ℕ, _+_, _-_}
 use mathlib.Core.List.{List, [], _∷_, _++_, map}
@@ -15,7 +15,7 @@ use Rattle.record.specs.declared.Variable.{Variable}
 use Rattle.record.specs.declared.Address.{Address}
 use Rattle.machine.specs.Machine.{Machine, fresh, run}
 use Rattle.machine.specs.Memories.{Assembly, assembly, machine-cells}
-use Rattle.machine.specs.Calls.{run-assembly, fresh-state, Progress, finished, paused, go-on, run-machine, told}
+use Rattle.machine.specs.Calls.{run-assembly, fresh-state, Told, finished, paused, go-on, run-machine, without-state}
 use Rattle.machine.specs.Pieces.{in-pieces}
 use Rattle.machine.specs.declared.State.{State}
 
@@ -121,7 +121,7 @@ pub record MachineDeclines : Type 0 where
   pub eleven-longer : run-machine (five 0x50 0) (memory 5) 2 1 9 ≡ (refused 11 0, memory 5)
   pub eleven-D : run-machine (five 0x50 0) (memory 67) 65 1 9 ≡ (refused 11 0, memory 67)
   pub eleven-n : run-machine (five 0x50 0) (memory 68) 2 65 9 ≡ (refused 11 0, memory 68)
-  pub not-eleven : told (run-machine [] (memory 129) 64 64 9) ≡ (done-at-0, memory 129)
+  pub not-eleven : without-state (run-machine [] (memory 129) 64 64 9) ≡ (done-at-0, memory 129)
   -- 9, and 10: `52 01 00 00 00` and a byte more
   pub nine-ten : run-machine (five 0x52 1 ++ (0x50 ∷ [])) (memory 4) 2 1 9 ≡ (refused 9 0, memory 4)
   -- 10, and 11: `52 01 00 00 00`, and 3 cells; the address 66, and n 65, by which the address 65 is not too high
@@ -156,10 +156,10 @@ abbrev pub forever : List ℕ
 forever = 0x54 ∷ replicate 4 0xff
 
 -- What a call gives and leaves
-abbrev pub Gives : Answer Progress × List ℤ → Progress → List ℤ → Type 0
+abbrev pub Gives : Answer Told × List ℤ → Told → List ℤ → Type 0
 Gives call told left = call ≡ (gives told, left)
 
-abbrev pub done-at : ℕ → ℕ → Progress
+abbrev pub done-at : ℕ → ℕ → Told
 done-at count mark = finished (ran done count mark)
 
 pub record Pauses : Type 0 where
@@ -189,12 +189,13 @@ pub record Pauses : Type 0 where
 -- ---- Where go_on declines: 9, 10, 11, 15
 
 -- on a jump to itself, with D 2 and no variable
-abbrev pub from-state : State → ℕ → Answer Progress × List ℤ
+abbrev pub from-state : State → ℕ → Answer Told × List ℤ
 from-state s budget = go-on forever (memory 3) 2 0 s budget
 
 -- Number and place, and the memory as it was. Before the budget stands the state.
 pub record StateDeclines : Type 0 where
-  -- 15: a position past the end; a stack size above the mark; a mark above D; a count that with the budget passes 4294967295
+  -- 15: a position past the end; a stack size above the mark; a mark above D; a count that with the budget passes
+  -- 4294967295
   pub fifteen-position : from-state (state 2 0 0 0) 9 ≡ (refused 15 0, memory 3)
   pub fifteen-size : from-state (state 0 2 0 1) 9 ≡ (refused 15 0, memory 3)
   pub fifteen-mark : from-state (state 0 0 0 3) 9 ≡ (refused 15 0, memory 3)

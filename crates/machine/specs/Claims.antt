@@ -46,8 +46,8 @@ module _ {M Name : Type 0} (sum : SumRule) (D : ℕ) (o : Memory M Name) (code :
   abbrev pub Highest : Type 0
   Highest = (n mark : ℕ) (s : Machine M) → s .size ≤ mark → Most n mark s (run sum D o code n mark s .mark)
 
-  -- A machine that stands at most at its code's end position, with at most as many values on its stack as its mark, and that
-  -- at most D: as a fresh one does, with mark 0
+  -- A machine that stands at most at its code's end position, with at most as many values on its stack as its mark, and
+  -- that at most D: as a fresh one does, with mark 0
   pub record InBounds (mark : ℕ) (s : Machine M) : Type 0 where
     pub placed : s .position ≤ length code
     pub held : s .size ≤ mark

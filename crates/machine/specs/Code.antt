@@ -2,11 +2,11 @@
 use Rattle.base.specs.Answers.{Answer, gives, refused}
 use Rattle.base.specs.Ends.{ran}
 use Rattle.base.specs.Code.{end-of}
-use Rattle.machine.specs.Calls.{Progress, finished, paused}
-use Rattle.machine.specs.declared.Progress as Code
-use Rattle.machine.specs.declared.Progress.the-variants.{Refused, Ended, Paused}
+use Rattle.machine.specs.Calls.{Told, finished, paused}
+use Rattle.machine.specs.declared.Piece as Code
+use Rattle.machine.specs.declared.Piece.the-variants.{Refused, Ended, Paused}
 
-abbrev pub progress-answer : Code.Progress → Answer Progress
-progress-answer (Refused r) = refused (r .number) (r .place)
-progress-answer (Ended e count mark) = gives (finished (ran (end-of e) count mark))
-progress-answer (Paused s) = gives (paused s)
+abbrev pub piece-answer : Code.Piece → Answer Told
+piece-answer (Refused r) = refused (r .number) (r .place)
+piece-answer (Ended e count mark) = gives (finished (ran (end-of e) count mark))
+piece-answer (Paused s) = gives (paused s)

@@ -6,8 +6,8 @@ use base::Refusal;
 use base::Run;
 ghost use mathlib.Core.Path.{_≡_};
 ghost use Rattle.base.specs.Code.{run-answer};
-ghost use Rattle.machine.specs.Calls.{fresh-state, told-answer};
-ghost use Rattle.machine.specs.Code.{progress-answer};
+ghost use Rattle.machine.specs.Calls.{fresh-state, answer-without-state};
+ghost use Rattle.machine.specs.Code.{piece-answer};
 
 // What a spent run hands out, and a later call takes: the position of the record due, the number of values on the stack,
 // the records counted, and the mark, the most values that there were.
@@ -20,7 +20,7 @@ pub struct State {
 
 // The answer of a call that runs machine code: a refusal; the run's end, its count and its mark; or, where it is spent,
 // its state.
-pub enum Progress {
+pub enum Piece {
     Refused(Refusal),
     Ended { end: End, count: u32, mark: usize },
     Paused(State),
@@ -40,15 +40,15 @@ impl State {
     }
 }
 
-impl Progress {
-    // The same without the state: a run's end, its count and its mark.
-    pub fn run(self) -> Run
-        ensures { λ r. ⌜ run-answer r ≡ told-answer (progress-answer self) ⌝ }
+impl Piece {
+    // The answer without the state: a run's end, its count and its mark.
+    pub fn without_state(self) -> Run
+        ensures { λ r. ⌜ run-answer r ≡ answer-without-state (piece-answer self) ⌝ }
     {
         match self {
-            Progress::Refused(refusal) => Run::Refused(refusal),
-            Progress::Ended { end, count, mark } => Run::Ended { end, count, mark },
-            Progress::Paused(state) => Run::Ended {
+            Piece::Refused(refusal) => Run::Refused(refusal),
+            Piece::Ended { end, count, mark } => Run::Ended { end, count, mark },
+            Piece::Paused(state) => Run::Ended {
                 end: End::Spent,
                 count: state.count,
                 mark: state.mark,

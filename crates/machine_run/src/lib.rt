@@ -3,7 +3,7 @@
 use base::Count;
 use base::End;
 use base::Run;
-use machine::Progress;
+use machine::Piece;
 use machine::State;
 use machine_step::Halted;
 use machine_step::Machine;
@@ -15,8 +15,8 @@ ghost use lib.Dec.{leb, eqb};
 ghost use lib.ListN.{length};
 ghost use Rattle.base.specs.Answers.{gives, and-then};
 ghost use Rattle.base.specs.Code.{run-answer, count-answer};
-ghost use Rattle.machine.specs.Calls.{machine-tests, state-fits, state-tests, go-on, run-machine, told};
-ghost use Rattle.machine.specs.Code.{progress-answer};
+ghost use Rattle.machine.specs.Calls.{machine-tests, state-fits, state-tests, go-on, run-machine, without-state};
+ghost use Rattle.machine.specs.Code.{piece-answer};
 ghost use Rattle.machine_step.specs.Code.{halted-result};
 ghost use Rattle.machine_step.specs.Steps.{MachinePassed};
 ghost use Rattle.machine_run.specs.Runs.{Tested, TestedState, Runs, Starts};
@@ -126,21 +126,21 @@ fn finish(
 
 // Runs the `last` records of code that passed the tests, from a state that passed them with a budget. `limit` is the
 // state's count and the budget together.
-fn resume(
+fn run_from(
     code: &[u8],
     memory: &mut [i32],
     depth: usize,
     last: usize,
     state: State,
     limit: u32,
-) -> Progress
+) -> Piece
     requires { ⌜ ((n : ℕ) × (budget : ℕ) × TestedState (now code) (now memory) depth n state budget limit last) ⌝ }
     ensures { λ r. ⌜ ((n budget : ℕ)
         → TestedState (now (code .entry)) (now (memory .entry)) depth n state budget limit last
-        → (progress-answer r, now (memory .exit))
+        → (piece-answer r, now (memory .exit))
         ≡ go-on (now (code .entry)) (now (memory .entry)) depth n state budget) ⌝ }
 {
-    finish(Machine::resumed(state), code, memory, depth, last, limit).progress()
+    finish(Machine::resumed(state), code, memory, depth, last, limit).piece()
 }
 
 // Runs the `last` records of code that passed the tests, from a fresh machine.
@@ -148,9 +148,9 @@ pub fn run_tested(code: &[u8], memory: &mut [i32], depth: usize, last: usize, bu
     requires { ⌜ ((n : ℕ) × Tested (now code) (now memory) depth n last) ⌝ }
     ensures { λ r. ⌜ ((n : ℕ) → Tested (now (code .entry)) (now (memory .entry)) depth n last
         → (run-answer r, now (memory .exit))
-        ≡ told (run-machine (now (code .entry)) (now (memory .entry)) depth n budget)) ⌝ }
+        ≡ without-state (run-machine (now (code .entry)) (now (memory .entry)) depth n budget)) ⌝ }
 {
-    resume(code, memory, depth, last, State::fresh(), budget).run()
+    run_from(code, memory, depth, last, State::fresh(), budget).without_state()
 }
 
 // Runs machine code on from the state of a paused run, over the memory as that run left it, with D = `depth` stack cells
@@ -163,23 +163,23 @@ pub fn go_on(
     cells: u64,
     state: State,
     budget: u32,
-) -> Progress
-    ensures { λ r. ⌜ (progress-answer r, now (memory .exit))
+) -> Piece
+    ensures { λ r. ⌜ (piece-answer r, now (memory .exit))
         ≡ go-on (now (code .entry)) (now (memory .entry)) depth cells state budget ⌝ }
 {
     match test_state(code, memory, depth, cells, state, budget) {
-        Count::Refused(refusal) => Progress::Refused(refusal),
+        Count::Refused(refusal) => Piece::Refused(refusal),
         Count::Gives(last) => {
             let limit = state.count + budget;
-            resume(code, memory, depth as usize, last, state, limit)
+            run_from(code, memory, depth as usize, last, state, limit)
         }
     }
 }
 
 // Runs machine code from a fresh machine, over memory with D = `depth` stack cells and n = `cells` addresses.
 // Refuses 9, 10, 11, and then leaves the memory untouched.
-pub fn run_machine(code: &[u8], memory: &mut [i32], depth: u64, cells: u64, budget: u32) -> Progress
-    ensures { λ r. ⌜ (progress-answer r, now (memory .exit))
+pub fn run_machine(code: &[u8], memory: &mut [i32], depth: u64, cells: u64, budget: u32) -> Piece
+    ensures { λ r. ⌜ (piece-answer r, now (memory .exit))
         ≡ run-machine (now (code .entry)) (now (memory .entry)) depth cells budget ⌝ }
 {
     go_on(code, memory, depth, cells, State::fresh(), budget)

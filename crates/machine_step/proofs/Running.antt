@@ -27,10 +27,10 @@ use Rattle.record.proofs.Tested.{records-length}
 use Rattle.machine.specs.Machine as Rules
 use Rattle.machine.specs.Machine.{Memory, at, fresh, land, jump, act, after, run}
 use Rattle.machine.specs.Memories.{machine-cells}
-use Rattle.machine.specs.Calls.{run-from, Progress, tell, progress}
-use Rattle.machine.specs.Code.{progress-answer}
+use Rattle.machine.specs.Calls.{run-from, Told, tell, piece-told}
+use Rattle.machine.specs.Code.{piece-answer}
 use Rattle.machine.specs.declared.State.{State}
-use Rattle.machine.specs.declared.Progress as Progressed
+use Rattle.machine.specs.declared.Piece as Machined
 use Rattle.machine.proofs.Exact.{left-most}
 use Rattle.machine.proofs.Inside.{act-within}
 use Rattle.machine.proofs.Steps.{run-done, run-spent, run-step}
@@ -300,17 +300,17 @@ module _ (D : ℕ) (P : MachineCode) (budget : ℕ) (s : State) (m : List ℤ) w
   abbrev R : Result (Rules.Machine (List ℤ))
   R = run-from P m D s budget
 
-  pub told-from : {limit : ℕ} {first : Machine} (a : Progressed.Progress) (r : Halted) (m′ : List ℤ)
+  pub told-from : {limit : ℕ} {first : Machine} (a : Machined.Piece) (r : Halted) (m′ : List ℤ)
       → first ≡ resumed-machine s → limit ≡ s .count + budget
-      → progress-answer a
+      → piece-answer a
       ≡ gives (tell (end-of (r .end)) (r .machine .count) (r .machine .mark) (machine-of (r .machine) m′))
       → r .machine .count ≤ limit
       → halted-result limit r m′ ≡ run-on D (machine-cells D) P (limit - first .count) first m
-      → _≡_ {A = Answer Progress × List ℤ} (progress-answer a, m′) (gives (progress s budget R), R .leaves .memory)
+      → _≡_ {A = Answer Told × List ℤ} (piece-answer a, m′) (gives (piece-told s budget R), R .leaves .memory)
   told-from {limit = limit} a r m′ is-first is-limit answer within same =
       (λ i. (answer i, m′))
       ∙ (λ i. (gives (tell (end-of (r .end)) (count i) (r .machine .mark) (machine-of (r .machine) m′)), m′))
-      ∙ (λ i. (gives (progress s budget (whole i)), whole i .leaves .memory))
+      ∙ (λ i. (gives (piece-told s budget (whole i)), whole i .leaves .memory))
     where
       ticks : limit - s .count ≡ budget
       ticks = omega (arith, is-limit)

@@ -2,7 +2,7 @@
 // that both executors share; LOAD, STORE and the dispatch are each executor's own.
 use base::End;
 use base::Run;
-use machine::Progress;
+use machine::Piece;
 use machine::State;
 use machine_cells::Layout;
 use machine_cells::Limits;
@@ -24,7 +24,7 @@ ghost use Rattle.base.specs.Code.{end-of};
 ghost use Rattle.word.specs.Targets.{target};
 ghost use Rattle.record.specs.Records.{LOADI, ADD, STORE};
 ghost use Rattle.machine.specs.Calls.{tell};
-ghost use Rattle.machine.specs.Code.{progress-answer};
+ghost use Rattle.machine.specs.Code.{piece-answer};
 ghost use Rattle.machine_cells.specs.declared.Layout.the-variants.{Upward, Downward};
 ghost use Rattle.machine_step.specs.Code.{fresh-machine, resumed-machine, stopped, moved, landed, machine-of, step-of};
 ghost use Rattle.machine_step.specs.Steps.{comparing, upward, downward, OnStack, Ready};
@@ -298,20 +298,20 @@ impl Halted {
     }
 
     // What a call on machine code tells of it: the state where the run is spent, else its end, its count and its mark.
-    pub fn progress(self) -> Progress
-        ensures { λ r. ⌜ ((memory : List ℤ) → progress-answer r
+    pub fn piece(self) -> Piece
+        ensures { λ r. ⌜ ((memory : List ℤ) → piece-answer r
             ≡ gives (tell (end-of (self .end)) (self .machine .count) (self .machine .mark)
             (machine-of (self .machine) memory))) ⌝ }
     {
         let end = self.end;
         match end {
-            End::Spent => Progress::Paused(State {
+            End::Spent => Piece::Paused(State {
                 position: self.machine.position,
                 size: self.machine.size,
                 count: self.machine.count,
                 mark: self.machine.mark,
             }),
-            _ => Progress::Ended {
+            _ => Piece::Ended {
                 end,
                 count: self.machine.count,
                 mark: self.machine.mark,

@@ -4,7 +4,7 @@ use base::Count;
 use base::Preview;
 use base::Run;
 use base::copy_cells;
-use machine::Progress;
+use machine::Piece;
 use machine::State;
 use text::Reading;
 
@@ -44,9 +44,15 @@ fn number(word: u32) -> usize {
     word as usize
 }
 
+// The state in seven words; of another number of words, one that is refused.
 fn state_of(words: &[u32]) -> State {
     if words.len() != STATE_WORDS {
-        return State::fresh();
+        return State {
+            position: 0,
+            size: 1,
+            count: 0,
+            mark: 0,
+        };
     }
     State {
         position: number(words[0]),
@@ -79,14 +85,14 @@ fn put_last_three(words: &mut [u32]) {
 }
 
 // The answer of a call that runs machine code as one number, and its state in the lent words, if it is spent.
-fn put_progress(progress: Progress, words: &mut [u32]) -> u64 {
-    match progress {
-        Progress::Refused(_) => pod_packing::pack_run(progress.run()),
-        Progress::Ended { .. } => pod_packing::pack_run(progress.run()),
-        Progress::Paused(state) => {
+fn put_piece(piece: Piece, words: &mut [u32]) -> u64 {
+    match piece {
+        Piece::Refused(_) => pod_packing::pack_run(piece.without_state()),
+        Piece::Ended { .. } => pod_packing::pack_run(piece.without_state()),
+        Piece::Paused(state) => {
             put_first_four(state, words);
             put_last_three(words);
-            pod_packing::pack_run(progress.run())
+            pod_packing::pack_run(piece.without_state())
         }
     }
 }
@@ -100,8 +106,8 @@ pub extern "C" fn probe_run_machine(
     budget: u32,
     state: &mut [u32],
 ) -> u64 {
-    let progress: Progress = machine_run::run_machine(code, memory, depth, cells, budget);
-    put_progress(progress, state)
+    let piece: Piece = machine_run::run_machine(code, memory, depth, cells, budget);
+    put_piece(piece, state)
 }
 
 #[no_mangle]
@@ -113,15 +119,8 @@ pub extern "C" fn probe_go_on(
     state: &mut [u32],
     budget: u32,
 ) -> u64 {
-    let progress: Progress = machine_run::go_on(
-        code,
-        memory,
-        depth,
-        cells,
-        state_of(state),
-        budget,
-    );
-    put_progress(progress, state)
+    let piece: Piece = machine_run::go_on(code, memory, depth, cells, state_of(state), budget);
+    put_piece(piece, state)
 }
 
 #[no_mangle]

@@ -5,7 +5,7 @@ use native.Mathlib.Omega.{arith}
 use lib.ListN.{length}
 use borrow.Author.Needs.{needs}
 use Rattle.base.specs.Code.{run-answer}
-use Rattle.machine.specs.Calls.{run-machine, told}
+use Rattle.machine.specs.Calls.{run-machine, without-state}
 use Rattle.compile.specs.Table.{named-in}
 use Rattle.fitting.proofs.Calls.{previews}
 use Rattle.fitting_preview.proofs.Tests.{tested, in-copy, room}
@@ -43,4 +43,4 @@ run-on-copy-spec =
     ap (λ store. (run-answer (run .run-tested .result), store)) (back .to-store .ensures)
     ∙ previews (s .code .now) (s .memory .now) (s .depth) (s .table .now) (s .store .now) (x .passes) (s .budget)
     (run .run-tested .ensures n (in-copy _ _ _ _ _ x (k .copy-cells .ensures))
-    ∙ ap (λ m. told (run-machine (s .code .now) m (s .depth) n (s .budget))) (k .copy-cells .ensures))))
+    ∙ ap (λ m. without-state (run-machine (s .code .now) m (s .depth) n (s .budget))) (k .copy-cells .ensures))))

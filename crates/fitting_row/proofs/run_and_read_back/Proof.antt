@@ -8,7 +8,7 @@ use Rattle.base.specs.Acts.{give}
 use Rattle.base.specs.Code.{run-answer, count-answer}
 use Rattle.base.specs.Rows.{answered}
 use Rattle.base.proofs.Rows.{ends-there, goes-on}
-use Rattle.machine.proofs.Calls.{told-of}
+use Rattle.machine.proofs.Calls.{without-state-of}
 use Rattle.fitting.specs.Rows.{buffers}
 use Rattle.fitting_row.proofs.run_and_read_back.Statement.{statement}
 use Rattle.fitting_row.proofs.run_and_read_back.Tie as tie
@@ -17,12 +17,12 @@ use Rattle.fitting_row.proofs.run_and_read_back.Tie as tie
 returns : tie.Need-returns
 returns c =
     let no : tie.After-refusal = search in
-    let run : tie.After-run = search in
+    let run : tie.After-without-state = search in
     let ran : tie.After-run-machine = search in
     let s : tie.Start = search in
     let a = s .args in
     ends-there (λ m. buffers (a .code .now) (a .table .now) m (a .store .now)) _
-    (told-of (run .run .ensures) (ran .run-machine .ensures))
+    (without-state-of (run .without-state .ensures) (ran .run-machine .ensures))
     (ap run-answer (no .refusal .given .1))
 
 -- it ended, and reading back declined
@@ -31,12 +31,12 @@ returns-2 c =
     let no : tie.After-refusal2 = search in
     let read : tie.After-read-back = search in
     let end : tie.After-end = search in
-    let run : tie.After-run = search in
+    let run : tie.After-without-state = search in
     let ran : tie.After-run-machine = search in
     let s : tie.Start = search in
     let a = s .args in
     goes-on (λ m. buffers (a .code .now) (a .table .now) m (a .store .now)) _
-    (told-of (run .run .ensures) (ran .run-machine .ensures))
+    (without-state-of (run .without-state .ensures) (ran .run-machine .ensures))
     (ap run-answer (end .end .given .1))
     (ends-there (buffers (a .code .now) (a .table .now) _) _ (read .read-back .ensures)
     (ap count-answer (no .refusal2 .given .1)))
@@ -48,12 +48,12 @@ returns-3 c =
     let given : tie.After-enum-told = search in
     let read : tie.After-read-back = search in
     let end : tie.After-end = search in
-    let run : tie.After-run = search in
+    let run : tie.After-without-state = search in
     let ran : tie.After-run-machine = search in
     let s : tie.Start = search in
     let a = s .args in
     goes-on (λ m. buffers (a .code .now) (a .table .now) m (a .store .now)) _
-    (told-of (run .run .ensures) (ran .run-machine .ensures))
+    (without-state-of (run .without-state .ensures) (ran .run-machine .ensures))
     (ap run-answer (end .end .given .1))
     (goes-on (buffers (a .code .now) (a .table .now) _) _ (read .read-back .ensures)
     (ap count-answer (given .enum-told .given .1)) refl)

@@ -32,11 +32,11 @@ declines c =
 
 runs : tie.Need-returns-2
 runs c =
-    let run : tie.After-resume = search in
+    let run : tie.After-run-from = search in
     let arm : tie.After-last = search in
     let t : tie.After-test-state = search in
     let a : tie.Start = search in
-    run .resume .ensures (a .args .cells) (a .args .budget)
+    run .run-from .ensures (a .args .cells) (a .args .budget)
     (sym (t .test-state .ensures) ∙ ap count-answer (arm .last .given .1), refl)
 
 pub go-on-spec : {M : Type 1} → statement M
@@ -47,7 +47,7 @@ go-on-spec =
     (λ c. search needs)
     (λ c. search needs)
     add-limit
-    -- resume-requires
+    -- run-from-requires
     (λ c κs.
     let arm : tie.After-last = search in
     let t : tie.After-test-state = search in

@@ -5,7 +5,7 @@ use native.Mathlib.Omega.{arith}
 use borrow.Author.Needs.{needs}
 use Rattle.machine.specs.Calls.{fresh-state}
 use Rattle.machine.specs.declared.State.{State}
-use Rattle.machine.proofs.Calls.{told-of, fresh-tested, from-fresh}
+use Rattle.machine.proofs.Calls.{without-state-of, fresh-tested, from-fresh}
 use Rattle.machine_run.proofs.run_tested.Statement.{statement}
 use Rattle.machine_run.proofs.run_tested.Tie as tie
 
@@ -13,8 +13,8 @@ use Rattle.machine_run.proofs.run_tested.Tie as tie
 from-0 : {s : State} → s ≡ fresh-state → (budget : ℕ) → budget ≡ s .count + budget
 from-0 is budget = omega (arith, ap (λ (s : State). s .count) is)
 
-resume-requires : tie.Need-resume-requires
-resume-requires c κs =
+run-from-requires : tie.Need-run-from-requires
+run-from-requires c κs =
     let a : tie.Start = search in
     let s = a .args in (
       a .pre .0,
@@ -27,13 +27,13 @@ resume-requires c κs =
 
 ran : tie.Need-returns
 ran c n tested =
-    let run : tie.After-resume = search in
+    let run : tie.After-run-from = search in
     let made : tie.After-fresh = search in
     let a : tie.Start = search in
     let s = a .args in
-    told-of (c .run .ensures)
+    without-state-of (c .without-state .ensures)
     (from-fresh (s .code .now) (s .memory .now) (s .depth) n (s .budget) (made .fresh .ensures)
-    (run .resume .ensures n (s .budget) (
+    (run .run-from .ensures n (s .budget) (
       fresh-tested (s .code .now) (s .memory .now) (s .depth) n (s .budget) (made .fresh .ensures) tested,
       from-0 (made .fresh .ensures) (s .budget),
     )))
@@ -41,4 +41,4 @@ ran c n tested =
 pub run-tested-spec : {M : Type 1} → statement M
 run-tested-spec =
     tie.close
-    (tie.spec (λ c κs. search needs) resume-requires (λ c κs. search needs) (λ c. search needs) ran)
+    (tie.spec (λ c κs. search needs) run-from-requires (λ c κs. search needs) (λ c. search needs) ran)

@@ -7,8 +7,8 @@ use Rattle.machine.proofs.Calls.{state-tested, state-runs}
 use Rattle.machine_step.specs.declared.Machine.{Machine}
 use Rattle.machine_step.proofs.Running.{told-from}
 use Rattle.machine_run.specs.Runs.{Starts}
-use Rattle.machine_run.proofs.resume.Statement.{statement}
-use Rattle.machine_run.proofs.resume.Tie as tie
+use Rattle.machine_run.proofs.run_from.Statement.{statement}
+use Rattle.machine_run.proofs.run_from.Tie as tie
 
 finish-requires : tie.Need-finish-requires
 finish-requires c κs =
@@ -43,13 +43,13 @@ ran c n budget tested =
     let a : tie.Start = search in
     let s = a .args in
     let f = state-tested (s .code .now) (s .memory .now) (s .depth) n (s .state) budget (tested .0) in
-    told-from (s .depth) (f .records) budget (s .state) (s .memory .now) (c .progress .result) (run .finish .result) _
-    (made .resumed .ensures) (tested .1) (c .progress .ensures _) (run .finish .ensures .1)
+    told-from (s .depth) (f .records) budget (s .state) (s .memory .now) (c .piece .result) (run .finish .result) _
+    (made .resumed .ensures) (tested .1) (c .piece .ensures _) (run .finish .ensures .1)
     (run .finish .ensures .0 n (f .records) (f .cells-are) (f .code-is .given))
     ∙ state-runs (s .code .now) (s .memory .now) (s .depth) n (s .state) budget (f .answer)
 
-pub resume-spec : {M : Type 1} → statement M
-resume-spec =
+pub run-from-spec : {M : Type 1} → statement M
+run-from-spec =
     tie.close
     (tie.spec
     (λ c κs. search needs)

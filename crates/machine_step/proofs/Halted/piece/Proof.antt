@@ -15,8 +15,8 @@ use Rattle.base.proofs.End.{the-type}
 use Rattle.machine.specs.Machine as Rules
 use Rattle.machine.specs.Calls.{finished, tell}
 use Rattle.machine_step.specs.Code.{machine-of}
-use Rattle.machine_step.proofs.Halted.progress.Statement.{statement}
-use Rattle.machine_step.proofs.Halted.progress.Tie as tie
+use Rattle.machine_step.proofs.Halted.piece.Statement.{statement}
+use Rattle.machine_step.proofs.Halted.piece.Tie as tie
 
 told-end : (e : End) (k mark : ℕ) (s : Rules.Machine (List ℤ)) → (e ≡ Spent → ⊥)
     → gives (finished (ran (end-of e) k mark)) ≡ gives (tell (end-of e) k mark s)
@@ -45,5 +45,5 @@ ended c memory =
     told-end (s .args .self .end) _ _ (machine-of (s .args .self .machine) memory)
     (λ is. miss others 1 tt (subst (λ (e : End). OneOf others (tagOf the-type e)) is (c .match .keys2)))
 
-pub progress-spec : {M : Type 1} → statement M
-progress-spec = tie.close (tie.spec (λ c. search needs) paused ended)
+pub piece-spec : {M : Type 1} → statement M
+piece-spec = tie.close (tie.spec (λ c. search needs) paused ended)
