@@ -126,8 +126,8 @@ fn tree() {
     assert_eq!(shown, listed);
 }
 
-/// The back end inlines a step into its run loop, and the loop into its call, only while it has one caller. A step that is a
-/// function of its own makes each record eight times as dear, a loop that is one makes a quarter more instructions of it.
+/// The back end inlines a step into its run loop, and the loop into the function that calls it, only while it has one caller.
+/// A step that is a function of its own makes each record eight times as dear, a loop that is one makes more instructions of it.
 #[test]
 fn steps_and_loops_are_inlined() {
     let library = root().join("target/staticlib/libprobe.a");

@@ -150,11 +150,6 @@ module _ (code : List ℕ) (m : List ℤ) (D n : ℕ) where
         cells-are = eqb-true (length m) (D + 1 + n) (small .1);
       }
 
-  pub machine-found : {last : ℕ} → number-given (machine-tests code m D n) ≡ gives last → MachineFound last
-  machine-found e =
-      let c = needed (machine-tests code m D n) (λ P. gives (length P)) e in
-      machine-passed (c .given) (gives-one _ _ (c .then-gives))
-
 -- ---- From a state
 
 -- a count is within what the budget leaves of the greatest exactly where the two together are
@@ -295,8 +290,8 @@ told-ran End.spent k mark s = refl
 told-ran (fault e) k mark s = refl
 
 -- and of a call's answer
-pub without-state-of : {a : Answer Told} {r : Answer Ran} {m : List ℤ} {x : Answer Told × List ℤ} → r ≡ answer-without-state a
-    → (a, m) ≡ x → (r, m) ≡ without-state x
+pub without-state-of : {a : Answer Told} {r : Answer Ran} {m : List ℤ} {x : Answer Told × List ℤ}
+    → r ≡ answer-without-state a → (a, m) ≡ x → (r, m) ≡ without-state x
 without-state-of {m = m} tells-it e = (λ i. (tells-it i, m)) ∙ ap without-state e
 
 module _ (code : List ℕ) (m : List ℤ) (D n budget : ℕ) where
@@ -353,11 +348,6 @@ fresh-run code m D n budget = by (machine-tests code m D n) refl
         → without-state (run-machine code m D n budget)
         ≡ settle (machine-tests code m D n) (λ P. report budget (machine-run P m D budget))
         (λ P. machine-run P m D budget .leaves .memory) m
-    by (gives P) e =
-        sym (machine-runs code m D n budget e)
-        ∙ settled (machine-tests code m D n) (λ P. report budget (machine-run P m D budget))
-        (λ P. machine-run P m D budget .leaves .memory) m e refl
+    by (gives P) e = sym (machine-runs code m D n budget e) ∙ settled (machine-tests code m D n) _ _ m e refl
     by (refused number place) e =
-        sym (machine-declines code m D n budget e)
-        ∙ declined (machine-tests code m D n) (λ P. report budget (machine-run P m D budget))
-        (λ P. machine-run P m D budget .leaves .memory) m e
+        sym (machine-declines code m D n budget e) ∙ declined (machine-tests code m D n) _ _ m e
