@@ -30,9 +30,9 @@ pub fn test(code: &[u8], store: &[i32], stack: &[i32]) -> Count
         return Count::decline(8, 0);
     }
     let last = code.len() / record::RECORD_BYTES;
-    let fault = Kind::assembly().fault(code, last);
-    if fault < last {
-        return Count::decline(10, fault);
+    let place = Kind::assembly().mismatch(code, last);
+    if place < last {
+        return Count::decline(10, place);
     }
     if Machine::STACK_CELLS < stack.len() {
         return Count::decline(11, 0);

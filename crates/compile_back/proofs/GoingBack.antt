@@ -14,7 +14,7 @@ use Rattle.record.specs.Bytes.{machine-kind, over, record-count}
 use Rattle.record.specs.Claims.{NameFits}
 use Rattle.record_test.specs.Code.{kind-of, assembly-numbers, machine-numbers}
 use Rattle.record.specs.declared.Address.{Address}
-use Rattle.record_test.proofs.Testing.{assembly-told, machine-told}
+use Rattle.record_test.proofs.Testing.{assembly-same, machine-same}
 use Rattle.compile.specs.Calls.{go-back}
 use Rattle.compile.specs.Table.{variable-at}
 use Rattle.compile_translation.specs.Standing.{Stands, Holds, Renamed, Renames}
@@ -49,7 +49,7 @@ module _ {code t out : List ℕ} {n : ℕ} {names now : List ℕ} (c : Copied co
   stands = rw (c .copy-is) (copied (c .tests) (c .bytes))
 
   pub back-holds : Holds (kind-of (machine-numbers n)) (record-count code) now
-  back-holds = (_, (out, plainly (machine-told n) stands))
+  back-holds = (_, (out, plainly (machine-same n) stands))
 
   -- The call gives the record count and leaves the assembly.
   pub gone-back : {left : List ℕ} → Renamed (machine-numbers n) assembly-numbers names (record-count code) now left
@@ -58,4 +58,4 @@ module _ {code t out : List ℕ} {n : ℕ} {names now : List ℕ} (c : Copied co
   gone-back {left} e =
       ap (λ (m : ℕ). (gives m, left)) (sym (c .tests .size))
       ∙ settled _ _ _ _ (c .tests .given)
-      (renamed (machine-told n) assembly-told names (λ a. variable (variable-at t 0 (a .0))) name stands e)
+      (renamed (machine-same n) assembly-same names (λ a. variable (variable-at t 0 (a .0))) name stands e)

@@ -18,7 +18,7 @@ use Rattle.record.specs.Bytes.{machine-kind, code-bytes, over, record-count, wh
 use Rattle.record_test.specs.Code.{kind-of, machine-numbers, Tested}
 use Rattle.record_test.specs.declared.Kind.{Kind}
 use Rattle.record.proofs.Tested.{records-length, records-at}
-use Rattle.record_test.proofs.Testing.{tested-told, machine-told}
+use Rattle.record_test.proofs.Testing.{tested-told, machine-same}
 use Rattle.compile.specs.Calls.{go-back-tests}
 use Rattle.compile.specs.Table.{named-in, is-table}
 use Rattle.compile.proofs.Passing.{entries-most}
@@ -68,13 +68,13 @@ module _ (code t out : List ℕ) where
         → Tested (kind-of numbers) code (record-count code) place
         → Tested (machine-kind (named-in t)) code (record-count code) place
     found {numbers} {place} e f =
-        tested-told numbers (machine-kind (named-in t)) (rw (e, x .count) (machine-told (named-in t))) code
+        tested-told numbers (machine-kind (named-in t)) (rw (e, x .count) (machine-same (named-in t))) code
         (record-count code) place f
 
-    pub faulty : {numbers : Kind} {place : ℕ} → numbers ≡ machine-numbers n
+    pub mismatched : {numbers : Kind} {place : ℕ} → numbers ≡ machine-numbers n
         → Tested (kind-of numbers) code (record-count code) place → place < record-count code → refused 10 place ≡ tests
     unfolding go-back-tests and-then
-    faulty e f h = simp (x .is-whole, eq-eqb (length t) 64 (x .bytes), x .passes, found e f .fails h)
+    mismatched e f h = simp (x .is-whole, eq-eqb (length t) 64 (x .bytes), x .passes, found e f .fails h)
 
     module _ {numbers : Kind} {place : ℕ} (e : numbers ≡ machine-numbers n)
         (f : Tested (kind-of numbers) code (record-count code) place) (h : record-count code ≤ place) where

@@ -51,7 +51,7 @@ pub fn test(code: &[u8], table: &[u8], out: &[u8]) -> Count
         Named::NoTable => Count::decline(12, 0),
         Named::Cells(n) => {
             let count = code.len() / RECORD_BYTES;
-            let place = Kind::machine(n as u64).fault(code, count);
+            let place = Kind::machine(n as u64).mismatch(code, count);
             if place < count {
                 return Count::decline(10, place);
             }

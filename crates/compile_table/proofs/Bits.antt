@@ -10,7 +10,7 @@ use lib.Arith.{digits-div, digits-mod, lt-one}
 use lib.Bits.{bitOr, or-lt, or-shr, or-mod}
 use lib.Dec.{eqb, ltb, lit<, eqb·zero-suc, eqb·suc-zero, eqb·suc-suc, leb·zero, leb·suc-zero, leb·suc-suc}
 use lib.Pow.{shl-exact, shr-shr, shr-lt, ones-split, pow-mono}
-use Rattle.compile_table.specs.Marks.{bit, lowest}
+use Rattle.compile_table.specs.AddressMarks.{bit, lowest}
 
 -- ---- The lowest bit, and the others
 

@@ -1,7 +1,7 @@
--- Tables and their marks, by computation (Cases: AddressBits, TablesPass, TablesFail).
+-- Tables and their address marks, by computation (Cases: AddressBits, TablesPass, TablesFail).
 use mathlib.Core.Path.{refl}
 use Rattle.compile.specs.Table.{times, once-each}
-use Rattle.compile_table.specs.Marks.{address-bit, marks}
+use Rattle.compile_table.specs.AddressMarks.{address-bit, address-marks}
 use Rattle.compile_table.specs.Tested.{tested}
 use Rattle.compile_table.specs.Cases.{numbers, AddressBits, TablesPass, TablesFail}
 
@@ -10,9 +10,9 @@ unfolding address-bit
 address-bits = (refl, refl, refl, refl, refl, refl, refl)
 
 pub tables-pass : TablesPass
-unfolding address-bit marks times once-each tested numbers
+unfolding address-bit address-marks times once-each tested numbers
 tables-pass = (refl, refl, refl)
 
 pub tables-fail : TablesFail
-unfolding address-bit marks times once-each tested numbers
+unfolding address-bit address-marks times once-each tested numbers
 tables-fail = (refl, refl, refl, refl)

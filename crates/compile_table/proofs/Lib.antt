@@ -1,6 +1,6 @@
 pub mod Tested
 pub mod Bits
-pub mod Marks
+pub mod AddressMarks
 pub mod Marking
 pub mod Sights
 pub mod Cases

@@ -1,4 +1,4 @@
--- The pass over a table: the word has the marks of the entries seen, and n of these are not 0.
+-- The pass over a table: the word has the address marks of the entries seen, and n of these are not 0.
 use mathlib.Core.Path.{_≡_, refl, sym, ap, _∙_}
 use mathlib.Core.List.{List, _∷_}
 use Prim.Native.Nat.{ℕ, suc, _+_, _-_, _*_, _%_, _^_, _<_, _≤_}
@@ -10,16 +10,16 @@ use lib.ListN.{length, getD, drop, drop-of-length-le}
 use lib.Seq.{drop-cons}
 use borrow.Author.Tests.{eq-eqb, ne-eqb, lt-ltb, le-ltb}
 use Rattle.compile.specs.Table.{times, named-in}
-use Rattle.compile_table.specs.Marks.{address-bit, marks}
+use Rattle.compile_table.specs.AddressMarks.{address-bit, address-marks}
 use Rattle.compile_table.proofs.Bits.{one-shifted, or-assoc}
-use Rattle.compile_table.proofs.Marks.{address-bit-small, marks-small}
+use Rattle.compile_table.proofs.AddressMarks.{address-bit-small, address-marks-small}
 
--- The entries before v are seen: with the marks of the others the word has those of all.
+-- The entries before v are seen: with the address marks of the others the word has those of all.
 pub record Seen (t : List ℕ) (word n v : ℕ) : Type 0 where
   pub most : v ≤ length t
   pub few : n ≤ v
   pub fits : word < 2 ^ 64
-  pub marked : bitOr word (marks (drop v t)) ≡ marks t
+  pub marked : bitOr word (address-marks (drop v t)) ≡ address-marks t
   pub named : n + times 0 t ≡ v + times 0 (drop v t)
 
 pub seen-start : (t : List ℕ) → Seen t 0 0 0
@@ -33,18 +33,18 @@ module _ {t : List ℕ} {word n v : ℕ} (i : Seen t word n v) (h : v < length t
   next = drop-cons t v 0 h ∙ ap (λ k. x ∷ drop k t) (sym (add-one v))
 
   -- The next entry: its bit is set,
-  with-bit : bitOr (bitOr word (address-bit x)) (marks (drop (v + 1) t)) ≡ marks t
-  unfolding marks
+  with-bit : bitOr (bitOr word (address-bit x)) (address-marks (drop (v + 1) t)) ≡ address-marks t
+  unfolding address-marks
   with-bit =
-      or-assoc 64 word (address-bit x) (marks (drop (v + 1) t)) (i .fits) (address-bit-small x)
-      (marks-small (drop (v + 1) t))
-      ∙ sym (ap (λ l. bitOr word (marks l)) next)
+      or-assoc 64 word (address-bit x) (address-marks (drop (v + 1) t)) (i .fits) (address-bit-small x)
+      (address-marks-small (drop (v + 1) t))
+      ∙ sym (ap (λ l. bitOr word (address-marks l)) next)
       ∙ i .marked
 
   -- or it has none.
-  without-bit : address-bit x ≡ 0 → bitOr word (marks (drop (v + 1) t)) ≡ marks t
+  without-bit : address-bit x ≡ 0 → bitOr word (address-marks (drop (v + 1) t)) ≡ address-marks t
   without-bit e =
-      ap (λ w. bitOr w (marks (drop (v + 1) t))) (sym (or-zero-r word) ∙ ap (bitOr word) (sym e)) ∙ with-bit
+      ap (λ w. bitOr w (address-marks (drop (v + 1) t))) (sym (or-zero-r word) ∙ ap (bitOr word) (sym e)) ∙ with-bit
 
   -- The entry is 0,
   pub seen-zero : x ≡ 0 → Seen t word n (v + 1)
@@ -81,7 +81,7 @@ module _ {t : List ℕ} {word n v : ℕ} (i : Seen t word n v) (h : v < length t
           most = omega arith;
           few = omega (arith, i .few);
           fits = rw (sym shifted) (or-lt 64 word (address-bit x) (i .fits) (address-bit-small x));
-          marked = ap (λ w. bitOr (bitOr word w) (marks (drop (v + 1) t))) (sym shifted) ∙ with-bit;
+          marked = ap (λ w. bitOr (bitOr word w) (address-marks (drop (v + 1) t))) (sym shifted) ∙ with-bit;
           named = one-more-named;
         }
 
@@ -100,11 +100,12 @@ module _ {t : List ℕ} {word n v : ℕ} (i : Seen t word n v) (h : v < length t
         }
 
 -- All are seen.
-pub seen-all : {t : List ℕ} {word n v : ℕ} → Seen t word n v → length t ≤ v → (word ≡ marks t) × (n ≡ named-in t)
-unfolding marks times
+pub seen-all : {t : List ℕ} {word n v : ℕ} → Seen t word n v → length t ≤ v
+    → (word ≡ address-marks t) × (n ≡ named-in t)
+unfolding address-marks times
 seen-all {t} {word} {v = v} i h =
     let none = drop-of-length-le t {i = v} h in
     let zeros : times 0 (drop v t) ≡ 0 = ap (times 0) none in (
-      sym (ap (λ l. bitOr word (marks l)) none ∙ or-zero-r word) ∙ i .marked,
+      sym (ap (λ l. bitOr word (address-marks l)) none ∙ or-zero-r word) ∙ i .marked,
       omega (arith, i .most, i .named, zeros),
     )

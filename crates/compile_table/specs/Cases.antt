@@ -1,9 +1,9 @@
--- Tables and their marks, by computation (document 02, W4).
+-- Tables and their address marks, by computation (document 02, W4).
 use mathlib.Core.Path.{_≡_}
 use mathlib.Core.List.{List, [], _∷_, _++_}
 use Prim.Native.Nat.{ℕ, zero, suc}
 use lib.ListN.{replicate}
-use Rattle.compile_table.specs.Marks.{address-bit, marks}
+use Rattle.compile_table.specs.AddressMarks.{address-bit, address-marks}
 use Rattle.compile_table.specs.Tested.{tested}
 use Rattle.compile_table.specs.declared.Named.{Named}
 use Rattle.compile_table.specs.declared.Named.the-variants.{Cells, NoTable}
@@ -20,7 +20,7 @@ numbers a (suc k) = a ∷ numbers (suc a) k
 
 -- a table's word, and what its test finds
 abbrev pub found : List ℕ → ℕ × Named
-found t = (marks t, tested t)
+found t = (address-marks t, tested t)
 
 -- no name; those of profile I; all 64
 abbrev pub TablesPass : Type 0

@@ -1,4 +1,4 @@
 pub mod Tested
-pub mod Marks
+pub mod AddressMarks
 pub mod Sights
 pub mod Cases

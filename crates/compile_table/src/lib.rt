@@ -8,7 +8,7 @@ ghost use Prim.Native.Nat.{_+_, _*_, _<_, _≤_};
 ghost use lib.ListN.{length, getD};
 ghost use Rattle.compile.specs.Table as Table;
 ghost use Rattle.compile.specs.Table.{named-in};
-ghost use Rattle.compile_table.specs.Marks as Marks;
+ghost use Rattle.compile_table.specs.AddressMarks as AddressMarks;
 ghost use Rattle.compile_table.specs.Sights.{address-at, Passed};
 ghost use Rattle.compile_table.specs.Tested.{tested};
 
@@ -21,7 +21,7 @@ pub enum Named {
     NoTable,
 }
 
-// What one pass over a table gathers: its marks, and how many of its entries are not 0.
+// What one pass over a table gathers: its address marks, and how many of its entries are not 0.
 struct Marked {
     word: u64,
     count: usize,
@@ -48,7 +48,7 @@ pub fn variable_of(inverse: &[u8], address: Address) -> Variable
 // A word with its n lowest bits set, and no other; all of them without a shift by the word's width.
 fn lowest(n: usize) -> u64
     requires { ⌜ n ≤ 64 ⌝ }
-    ensures { λ r. ⌜ r ≡ Marks.lowest n ⌝ }
+    ensures { λ r. ⌜ r ≡ AddressMarks.lowest n ⌝ }
 {
     if n == WORD_BITS {
         return u64::MAX;
@@ -58,7 +58,8 @@ fn lowest(n: usize) -> u64
 
 // Marks each address of a table in one word: bit a - 1 for address a, none for an entry above 64.
 fn mark_all(table: &[u8]) -> Marked
-    ensures { λ r. ⌜ (r .word ≡ Marks.marks (now (table .entry))) × (r .count ≡ named-in (now (table .entry))) ⌝ }
+    ensures { λ r. ⌜ (r .word ≡ AddressMarks.address-marks (now (table .entry)))
+        × (r .count ≡ named-in (now (table .entry))) ⌝ }
 {
     let mut word = 0u64;
     let mut n = 0;
@@ -80,7 +81,7 @@ fn mark_all(table: &[u8]) -> Marked
 }
 
 // How many variables a table names, if its nonzero entries are 1 to that number, once each: if so many of the lowest
-// bits of its marks are set, and no other.
+// bits of its address marks are set, and no other.
 pub fn names(table: &[u8]) -> Named
     requires { ⌜ length (now table) ≡ 64 ⌝ }
     ensures { λ r. ⌜ r ≡ tested (now (table .entry)) ⌝ }

@@ -10,13 +10,13 @@ use Rattle.record.specs.Records.{Record, LOADI, LOAD, ADD, STORE, JMP, JMPLESS,
 use Rattle.record.specs.Bytes as Bytes
 use Rattle.record.specs.Bytes.{first-byte, operand, record-bytes, code-bytes, over}
 use Rattle.record.specs.Claims.{NameFits, RecordFits, CodeFits}
-use Rattle.record_test.specs.Code.{kind-of, Told}
+use Rattle.record_test.specs.Code.{kind-of, SameKind}
 use Rattle.record_test.specs.declared.Kind.{Kind}
 use Rattle.compile_translation.specs.Standing.{Stands, Renamed}
 
 -- ---- A kind and its numbers
 
-module _ {Name : Type 0} {numbers : Kind} {k : Bytes.Kind Name} (t : Told numbers k) where
+module _ {Name : Type 0} {numbers : Kind} {k : Bytes.Kind Name} (t : SameKind numbers k) where
   -- A record has the bytes of the record that names the number.
   plain-record : (r : Record Name) → record-bytes k r ≡ record-bytes (kind-of numbers) (rename (k .number) r)
   unfolding first-byte operand rename
@@ -60,8 +60,9 @@ module _ {Name : Type 0} {numbers : Kind} {k : Bytes.Kind Name} (t : Told number
 
 -- ---- Two kinds: the x-th of `names` is the number of the name that g gives for the name of number x
 
-module _ {X Y : Type 0} {from to : Kind} {k : Bytes.Kind X} {k′ : Bytes.Kind Y} (t : Told from k) (t′ : Told to k′)
-    (names : List ℕ) (g : X → Y) (same : (x : X) → NameFits k x → getD names (k .number x) 0 ≡ k′ .number (g x)) where
+module _ {X Y : Type 0} {from to : Kind} {k : Bytes.Kind X} {k′ : Bytes.Kind Y} (t : SameKind from k)
+    (t′ : SameKind to k′) (names : List ℕ) (g : X → Y)
+    (same : (x : X) → NameFits k x → getD names (k .number x) 0 ≡ k′ .number (g x)) where
   abbrev new : ℕ → ℕ
   new u = getD names u 0
 

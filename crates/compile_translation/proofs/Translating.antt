@@ -11,7 +11,7 @@ use Rattle.record.specs.Bytes.{assembly-kind}
 use Rattle.record.specs.Claims.{NameFits}
 use Rattle.record_test.specs.Code.{kind-of, assembly-numbers, machine-numbers}
 use Rattle.record.specs.declared.Variable.{Variable}
-use Rattle.record_test.proofs.Testing.{assembly-told, machine-told}
+use Rattle.record_test.proofs.Testing.{assembly-same, machine-same}
 use Rattle.compile.specs.Table.{vars, addr-of}
 use Rattle.compile.proofs.Entries.{length-entries, table-at}
 use Rattle.compile_translation.specs.Standing.{Stands, Holds, Renamed, Renames}
@@ -34,12 +34,12 @@ module _ {P : AssemblyCode} {n : ℕ} {t : List ℕ} (x : Numbered P n t) where
 
   module _ {lent : List ℕ} {count : ℕ} {code : List ℕ} (s : Stands assembly-kind P lent count code) where
     pub still-holds : Holds (kind-of assembly-numbers) count code
-    still-holds = (_, (lent, plainly assembly-told s))
+    still-holds = (_, (lent, plainly assembly-same s))
 
     pub translated : {now : List ℕ} → Renamed assembly-numbers (machine-numbers n) t count code now
         → Translated P lent n t now
     translated e = record {
       cells = x .cells;
       table-is = x .table-is;
-      stand = renamed assembly-told (machine-told n) t (λ v. address (addr-of (vars P) (v .0))) entry s e;
+      stand = renamed assembly-same (machine-same n) t (λ v. address (addr-of (vars P) (v .0))) entry s e;
     }

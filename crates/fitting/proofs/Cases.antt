@@ -14,8 +14,8 @@ use Rattle.text.specs.Sizes.{expression-records, condition-records, records, ex
 use Rattle.text.specs.Sizes.{depth, expression-names, condition-names, names, how-many}
 use Rattle.text.specs.Cases.{A·text, B·text, C·text, D·text, E·text, F·text, G·text, H·text, I·text, J·text}
 use Rattle.text.specs.Cases.{K·text}
-use Rattle.source.specs.Rules.{charge, tick, raise, lower, cell, assign, total, add, value, truth, loop, exec}
-use Rattle.source.specs.Rules.{end-of, result-of}
+use Rattle.source.specs.Rules.{charge, tick, raise, lower, cell, assign, in-range as source-in-range, add, value}
+use Rattle.source.specs.Rules.{truth, loop, exec, end-of, result-of}
 use Rattle.source.specs.Calls.{source-tests, run-source}
 use Rattle.source.specs.Cases.{zeros}
 use Rattle.record.specs.Records.{rename}
@@ -45,7 +45,8 @@ unfolding cases measured by-rules by-machine zeros
     expression-of expression condition-of condition command-of command all-read read-text
     expression-records condition-records records expression-depth condition-depth depth
     expression-names condition-names names how-many
-    charge tick raise lower cell assign total add value truth loop exec end-of result-of source-tests run-source
+    charge tick raise lower cell assign source-in-range add value truth loop exec end-of result-of
+    source-tests run-source
     rename first-byte record-operand code-bytes operation name-of option-map is-zero record-of in-front records-from
     taken pop push held keep in-range next land jump act after run-at run
     machine-tests tell state-tests go-on run-machine ran-of

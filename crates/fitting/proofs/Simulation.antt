@@ -19,7 +19,7 @@ use Rattle.text.specs.Sizes.{expression-depth, condition-depth, depth}
 use Rattle.text.specs.Syntax.{Expression, Constant, Variable, Plus, Condition, Bc, Not, And, Less, Command, SKIP}
 use Rattle.text.specs.Syntax.{_:=_, _⨾_, IF_THEN_ELSE_, WHILE_DO_}
 use Rattle.source.specs.Rules.{State, Store, state, start, Rule, Outcomes, charge, tick, raise, lower, cell}
-use Rattle.source.specs.Rules.{assign, total, add, value, truth, loop, exec, end-of, result-of}
+use Rattle.source.specs.Rules.{assign, in-range as source-in-range, add, value, truth, loop, exec, end-of, result-of}
 use Rattle.record.specs.Records.{Record, LOADI, LOAD, ADD, STORE, JMP, JMPLESS, JMPGE, AssemblyCode, variable}
 use Rattle.record.specs.declared.Variable.{Variable as VariableNumber}
 use Rattle.record.proofs.Decoding.{none-due}
@@ -145,8 +145,8 @@ module _ {M : Type 0} (sum : SumRule) (D : ℕ) (o : Memory M VariableNumber) (P
       → onward (then′ (in-range (sum n′) D o (length P) r (at p k m))
       (λ z s. then′ (push (sum n′) D o (length P) z s) (λ _. next (sum n′) D o (length P)))) n′ μ
       (at p (suc (suc k)) m)
-      ≡ onto (total r (here n′ (suc k) μ m)) K
-  unfolding in-range then′ total onto after end-of
+      ≡ onto (source-in-range r (here n′ (suc k) μ m)) K
+  unfolding in-range then′ source-in-range onto after end-of
   sum-sim (Fits z) p q k μ e d b m n n′ l G K h =
       let same : max μ (suc k) ≡ μ = omega arith in
       push-sim z p q k (suc (suc k)) μ e d m n n′ l G K h ∙ ap (λ μ. K z (here n′ (suc k) μ m)) same
@@ -190,7 +190,7 @@ module _ {M : Type 0} (sum : SumRule) (D : ℕ) (o : Memory M VariableNumber) (P
       let z : Sum = sum n₃ (o .peek m₂ k) (o .peek m₂ (suc k)) in
       sum-sim z r q k μ₂ (t .1) (omega arith) (omega arith) m₂ n₂ n₃ (omega arith) G₂ K
       (λ m′ n′ μ′ l′ b′ G′ k′. h m′ n′ μ′ (omega arith) b′ G′ (λ i b. k′ i b ∙ k₂ i b))
-      ∙ ap (λ k. onto (total z (here n₃ k μ₂ m₂)) K) one-off))
+      ∙ ap (λ k. onto (source-in-range z (here n₃ k μ₂ m₂)) K) one-off))
 
   -- ---- conditions, which start and end with an empty stack
 

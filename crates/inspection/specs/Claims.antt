@@ -38,7 +38,8 @@ module _ {M Name : Type 0} (sum : ℤ → ℤ → Sum) (D : ℕ) (o : Memory M N
   Goes r p k (ended out-of-range) = Unit {0}
   Goes r p k (ended astray) = (taken : Bool) × (successor last p r taken ≡ Astray)
 
-  pub record Agrees (r : Record Name) (p k : ℕ) (m : M) : Type 0 where
+  -- What the machine does with it is as `effect` says
+  pub record ByEffect (r : Record Name) (p k : ℕ) (m : M) : Type 0 where
     -- it takes more than there is
     pub takes-more : k < effect r .takes → act sum D o last r (at p k m) ≡ ended short
     -- it pushes past D
@@ -46,10 +47,10 @@ module _ {M Name : Type 0} (sum : ℤ → ℤ → Sum) (D : ℕ) (o : Memory M N
     -- neither
     pub goes : effect r .takes ≤ k → height-after r k ≤ D → Goes r p k (act sum D o last r (at p k m))
 
--- The machine agrees with `effect`, with at most D values on its stack, on any memory, under any rule for sums.
+-- So it is with at most D values on the stack, on any memory, under any rule for sums.
 abbrev pub Effects : Type 1
 Effects = (M Name : Type 0) (sum : ℤ → ℤ → Sum) (D : ℕ) (o : Memory M Name) (last : ℕ) (r : Record Name) (p k : ℕ)
-    (m : M) → k ≤ D → Agrees sum D o last r p k m
+    (m : M) → k ≤ D → ByEffect sum D o last r p k m
 
 -- ---- Code that passes
 

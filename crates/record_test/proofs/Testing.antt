@@ -18,7 +18,7 @@ use Rattle.record.specs.Bytes as Bytes
 use Rattle.record.specs.Bytes.{assembly-kind, machine-kind, name-of, option-map, is-zero, record-count}
 use Rattle.record.specs.Bytes.{Operation, loadi, load, add, store, jmp, jmpless, jmpge, unknown, operation}
 use Rattle.record.specs.Bytes.{record-of, record-at, in-front, records-from}
-use Rattle.record_test.specs.Code.{kind-of, assembly-numbers, machine-numbers, Told, is-some, Tested}
+use Rattle.record_test.specs.Code.{kind-of, assembly-numbers, machine-numbers, SameKind, is-some, Tested}
 use Rattle.record_test.specs.declared.Kind.{Kind}
 
 -- ---- Through the records
@@ -97,7 +97,7 @@ module _ {Name : Type 0} (k : Bytes.Kind Name) (code : List ℕ) where
 
 -- ---- From a kind's numbers to the kind
 
-module _ {Name : Type 0} (numbers : Kind) (k : Bytes.Kind Name) (t : Told numbers k) where
+module _ {Name : Type 0} (numbers : Kind) (k : Bytes.Kind Name) (t : SameKind numbers k) where
   name-told : (z : ℤ) → name-of k z ≡ option-map (k .name) (name-of (kind-of numbers) z)
   unfolding name-of
   name-told (pos u) = ap (λ (b : Bool). if b then some (k .name u) else none) (sym (t .names-same u))
@@ -186,10 +186,10 @@ module _ {Name : Type 0} (numbers : Kind) (k : Bytes.Kind Name) (t : Told number
       tested-told code (record-count code) i
       (subst (λ (kind : Kind). Tested (kind-of kind) code (record-count code) i) e t)
 
--- Both kinds are told by their numbers.
-pub assembly-told : Told assembly-numbers assembly-kind
-assembly-told =
+-- Both kinds are those that their numbers say.
+pub assembly-same : SameKind assembly-numbers assembly-kind
+assembly-same =
     record { first-same = refl; names-same = λ u. ap (λ (t : Bool). t && leb u 63) (le-leb 0 u (omega arith)) }
 
-pub machine-told : (n : ℕ) → Told (machine-numbers n) (machine-kind n)
-machine-told n = record { first-same = refl; names-same = λ u. refl }
+pub machine-same : (n : ℕ) → SameKind (machine-numbers n) (machine-kind n)
+machine-same n = record { first-same = refl; names-same = λ u. refl }

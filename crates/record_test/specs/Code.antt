@@ -30,8 +30,8 @@ assembly-numbers = record { first = 0x40; least = 0; most = 63 }
 abbrev pub machine-numbers : ℕ → Kind
 machine-numbers n = record { first = 0x50; least = 1; most = n }
 
--- A kind whose records are told by these three numbers
-pub record Told {Name : Type 0} (numbers : Kind) (k : Bytes.Kind Name) : Type 0 where
+-- A kind that three numbers say: its first byte, and which numbers are names
+pub record SameKind {Name : Type 0} (numbers : Kind) (k : Bytes.Kind Name) : Type 0 where
   pub first-same : numbers .first ≡ k .first
   pub names-same : (u : ℕ) → kind-of numbers .is-name u ≡ k .is-name u
 

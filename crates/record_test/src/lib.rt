@@ -98,7 +98,7 @@ impl Kind {
     }
 
     // Refusal 10's place: the index of the first that is no record of this kind, or `count` where all are.
-    pub fn fault(self, code: &[u8], count: usize) -> usize
+    pub fn mismatch(self, code: &[u8], count: usize) -> usize
         requires { ⌜ 5 * count ≤ length (now code) ⌝ }
         ensures { λ r. ⌜ Tested (kind-of self) (now (code .entry)) count r ⌝ }
     {
@@ -123,9 +123,9 @@ pub fn test_machine(code: &[u8], cells: u64, fits: bool) -> Count
         return Count::decline(9, 0);
     }
     let last = code.len() / RECORD_BYTES;
-    let fault = Kind::machine(cells).fault(code, last);
-    if fault < last {
-        return Count::decline(10, fault);
+    let place = Kind::machine(cells).mismatch(code, last);
+    if place < last {
+        return Count::decline(10, place);
     }
     if !fits {
         return Count::decline(11, 0);

@@ -1,5 +1,5 @@
 -- Profiles A to K under the source rules, a mark tick by tick, where the call declines, and previews, by computation
--- (Cases: Tallies, Marks, Declines, Previews, PreviewDeclines); J at every budget, pass by pass (Forever).
+-- (Cases: Tallies, MarkTickByTick, Declines, Previews, PreviewDeclines); J at every budget, pass by pass (Forever).
 use mathlib.Core.Path.{_≡_, refl, _∙_, ap}
 use Prim.Native.Nat.{ℕ, zero, suc, _-_, _<_}
 use native.Mathlib.Omega.{arith}
@@ -16,10 +16,10 @@ use Rattle.text.specs.Syntax.{Bc, SKIP, WHILE_DO_}
 use Rattle.text.specs.Cases.{A·text, B·text, C·text, D·text, E·text, F·text, G·text, H·text, I·text, J·text, K·text}
 use Rattle.text.specs.Cases.{texts}
 use Rattle.source.specs.Rules.{Store, start, run-rules}
-use Rattle.source.specs.Rules.{charge, tick, raise, lower, cell, assign, total, add, value, truth, loop, exec}
+use Rattle.source.specs.Rules.{charge, tick, raise, lower, cell, assign, in-range, add, value, truth, loop, exec}
 use Rattle.source.specs.Rules.{end-of, result-of}
 use Rattle.source.specs.Calls.{source-tests, run-source, preview-source}
-use Rattle.source.specs.Cases.{zeros, Tallies, Marks, Forever, Declines, Previews, PreviewDeclines}
+use Rattle.source.specs.Cases.{zeros, Tallies, MarkTickByTick, Forever, Declines, Previews, PreviewDeclines}
 use Rattle.source.proofs.Calls.{source-runs}
 
 pub tallies : Tallies
@@ -27,15 +27,15 @@ unfolding texts A·text B·text C·text D·text E·text F·text G·text H·text 
     then′ give and-then settle number-of number-at limited sum32
     expression-byte condition-byte command-byte decline there due pass operand number-due number
     expression-of expression condition-of condition command-of command all-read read-text
-    charge tick raise lower cell assign total add value truth loop exec end-of result-of source-tests run-source
+    charge tick raise lower cell assign in-range add value truth loop exec end-of result-of source-tests run-source
 tallies = refl
 
-pub marks : Marks
+pub mark-tick-by-tick : MarkTickByTick
 unfolding zeros then′ give and-then settle byte-number limited sum32
     expression-byte condition-byte command-byte decline there due pass operand number-due number
     expression-of expression condition-of condition command-of command all-read read-text
-    charge tick raise lower cell assign total add value truth loop exec end-of result-of source-tests run-source
-marks = refl
+    charge tick raise lower cell assign in-range add value truth loop exec end-of result-of source-tests run-source
+mark-tick-by-tick = refl
 
 -- ---- J
 
@@ -83,7 +83,7 @@ pub previews : Previews
 unfolding then′ give and-then settle previewed byte-number limited sum32
     expression-byte condition-byte command-byte decline there due pass operand number-due number
     expression-of expression condition-of condition command-of command all-read read-text
-    charge tick raise lower cell assign total add value truth loop exec end-of result-of
+    charge tick raise lower cell assign in-range add value truth loop exec end-of result-of
     source-tests run-source preview-source
 previews = refl
 

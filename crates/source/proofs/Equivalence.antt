@@ -21,16 +21,16 @@ use Rattle.source.specs.BigStep.{aval, bval, BigStep, skip, assigns, seq
 use Rattle.source.specs.BigStep.{while-true}
 use Rattle.source.specs.Claims.{PublishedBy}
 use Rattle.source.specs.Rules.{Early, State, Ending, Store, state, start, Rule, Outcomes, charge, tick}
-use Rattle.source.specs.Rules.{raise, lower, cell, assign, total, add, value, truth, loop, exec}
+use Rattle.source.specs.Rules.{raise, lower, cell, assign, in-range, add, value, truth, loop, exec}
 
 -- ---- From ticks to big-step
 
 module _ (sum : SumRule) (exact : Exact sum) where
   ends-sum : (x y : ℤ) (s : State) (Q : ℤ → State → Type 0) → Q (x +ℤ y) s → Ends (add sum x y s) Q
-  unfolding add total
+  unfolding add in-range
   ends-sum x y s Q h = go (sum (s .left) x y) refl
     where
-      go : (r : Sum) → sum (s .left) x y ≡ r → Ends (total r s) Q
+      go : (r : Sum) → sum (s .left) x y ≡ r → Ends (in-range r s) Q
       go (Fits z) e = subst (λ w. Q w s) (sym (exact (s .left) x y z e)) h
       go Out e = tt
 
@@ -178,11 +178,11 @@ gives-lower k x s t a h =
 
 module _ (sum : SumRule) (exact : Exact sum) where
   gives-sum : (x y : ℤ) (s : Store) → Gives (add sum x y) s (x +ℤ y) s
-  unfolding add total
+  unfolding add in-range
   gives-sum x y s = gives-free (add sum x y) s s (x +ℤ y) (λ v e. go v e (sum (v .left) x y) refl)
     where
       go : (v : State) → v .store ≡ s → (r : Sum) → sum (v .left) x y ≡ r
-          → Yields (total r v) (x +ℤ y) (v .left) s
+          → Yields (in-range r v) (x +ℤ y) (v .left) s
       go v e (Fits z) k = inl (v, ap (λ w. ok w v) (exact (v .left) x y z k), refl, e)
       go v e Out k = inr (_, refl)
 

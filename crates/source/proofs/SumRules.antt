@@ -10,7 +10,7 @@ use Rattle.word.specs.declared.Sum.the-variants.{Fits, Out}
 use Rattle.text.specs.Syntax.{Expression, Constant, Variable, Plus, Condition, Bc, Not, And, Less, Command, SKIP}
 use Rattle.text.specs.Syntax.{_:=_, _⨾_, IF_THEN_ELSE_, WHILE_DO_}
 use Rattle.source.specs.Claims.{Agreed}
-use Rattle.source.specs.Rules.{Early, State, Ending, Rule, Outcomes, tick, lower, total, add, value, truth}
+use Rattle.source.specs.Rules.{Early, State, Ending, Rule, Outcomes, tick, lower, in-range, add, value, truth}
 use Rattle.source.specs.Rules.{loop, exec}
 
 -- r′ is r, unless r ended out of range
@@ -51,11 +51,11 @@ agreed-end (ended (Early.out-of-range, s)) r′ h k = absurd (k s refl)
 
 module _ (S H : SumRule) (same : (n : ℕ) (x y z : ℤ) → S n x y ≡ Fits z → H n x y ≡ Fits z) where
   sum-agree : (x y : ℤ) (s : State) → Agree (add S x y s) (add H x y s)
-  unfolding add total Agree
+  unfolding add in-range Agree
   sum-agree x y s = go (S (s .left) x y) refl
     where
-      go : (r : Sum) → S (s .left) x y ≡ r → Agree (total r s) (total (H (s .left) x y) s)
-      go (Fits z) e = ap (λ r. total r s) (same (s .left) x y z e)
+      go : (r : Sum) → S (s .left) x y ≡ r → Agree (in-range r s) (in-range (H (s .left) x y) s)
+      go (Fits z) e = ap (λ r. in-range r s) (same (s .left) x y z e)
       go Out e = tt
 
   value-agree : (a : Expression) (s : State) → Agree (value S a s) (value H a s)

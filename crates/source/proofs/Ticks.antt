@@ -9,7 +9,7 @@ use Rattle.word.specs.declared.Sum.{Sum}
 use Rattle.word.specs.declared.Sum.the-variants.{Fits, Out}
 use Rattle.text.specs.Syntax.{Expression, Constant, Variable, Plus, Condition, Bc, Not, And, Less, Command, SKIP}
 use Rattle.text.specs.Syntax.{_:=_, _⨾_, IF_THEN_ELSE_, WHILE_DO_}
-use Rattle.source.specs.Rules.{State, Rule, Outcomes, charge, tick, raise, lower, cell, assign, total}
+use Rattle.source.specs.Rules.{State, Rule, Outcomes, charge, tick, raise, lower, cell, assign, in-range}
 use Rattle.source.specs.Rules.{add, value, truth, loop, exec}
 
 -- At most n ticks are left
@@ -60,10 +60,10 @@ low-assign : (v : ℕ) (z : ℤ) → Lowers (assign v z)
 unfolding Low assign
 low-assign v z n s h = h
 
-low-total : (t : Sum) → Lowers (total t)
-unfolding Low total
-low-total (Fits z) n s h = h
-low-total Out n s h = h
+low-in-range : (t : Sum) → Lowers (in-range t)
+unfolding Low in-range
+low-in-range (Fits z) n s h = h
+low-in-range Out n s h = h
 
 -- a tick and then more
 low-after : {A : Type 0} (r : Rule A) → Lowers r → Lowers (λ s. then′ (tick s) (λ _. r))
@@ -72,7 +72,7 @@ low-after r h n s p = low-then (λ _. r) (λ _. h) n (tick s) (low-tick n s p)
 module _ (sum : SumRule) where
   low-add : (x y : ℤ) → Lowers (add sum x y)
   unfolding add
-  low-add x y n s h = low-total (sum (s .left) x y) n s h
+  low-add x y n s h = low-in-range (sum (s .left) x y) n s h
 
   low-value : (a : Expression) → Lowers (value sum a)
   unfolding value

@@ -34,8 +34,8 @@ Tallies = map (λ text. with-x0 (run-source text zeros 1000)) texts
 abbrev pub two-assignments : List ℕ
 two-assignments = 0x02 ∷ 0x01 ∷ 0 ∷ 0x12 ∷ 0x13 ∷ 1 ∷ 0x13 ∷ 2 ∷ 0x01 ∷ 1 ∷ 0x13 ∷ 3 ∷ []
 
-abbrev pub Marks : Type 0
-Marks = map (λ budget. run-source two-assignments zeros budget .0) (0 ∷ 1 ∷ 2 ∷ 3 ∷ 4 ∷ 5 ∷ 6 ∷ [])
+abbrev pub MarkTickByTick : Type 0
+MarkTickByTick = map (λ budget. run-source two-assignments zeros budget .0) (0 ∷ 1 ∷ 2 ∷ 3 ∷ 4 ∷ 5 ∷ 6 ∷ [])
     ≡ map gives (ran spent 0 0 ∷ ran spent 1 1 ∷ ran spent 2 2 ∷ ran spent 3 2 ∷ ran spent 4 2 ∷ ran spent 5 2
     ∷ ran done 6 2 ∷ [])
 

@@ -80,14 +80,14 @@ unfoldable pub assign : ℕ → ℤ → Rule (Unit {0})
 assign v z s = ok tt (state (s .left) (s .height) (s .mark) (set (s .store) v z))
 
 -- "A sum [out of range] ends the run out of range, that tick counted"
-unfoldable pub total : Sum → Rule ℤ
-total (Fits z) s = ok z s
-total Out s = stop out-of-range s
+unfoldable pub in-range : Sum → Rule ℤ
+in-range (Fits z) s = ok z s
+in-range Out s = stop out-of-range s
 
 -- The rule for sums is a parameter, and gets the ticks left after the sum's tick (word/specs/Sums says why)
 module _ (sum : SumRule) where
   unfoldable pub add : ℤ → ℤ → Rule ℤ
-  add x y s = total (sum (s .left) x y) s
+  add x y s = in-range (sum (s .left) x y) s
 
   -- "Constant or variable: one tick. Plus: left, right, then one tick for the sum"
   unfoldable pub value : Expression → Rule ℤ

@@ -1,4 +1,4 @@
-// Profile texts: reading the bytes of a command. As in `text_conditions`, variables that are named are marked, and a
+// Profile texts: reading the bytes of a command. As in `text_conditions`, variables that are named are noted, and a
 // helper is given the position of the construct's first byte and the nesting left for the parts.
 ghost use Prim.Native.Nat.{_<_};
 ghost use lib.ListN.{length};

@@ -1,5 +1,5 @@
 -- Answers to parts in a row: what the code's answer says of a construct, from the answers to its parts.
--- A construct is read part by part: each part but the last was read (Told), and the last part's answer settles the
+-- A construct is read part by part: each part but the last was read (ReadAs), and the last part's answer settles the
 -- construct's.
 use mathlib.Core.Path.{_≡_, refl, sym, ap, _∙_}
 use Prim.Native.Nat.{ℕ, _+_, _<_, max}
@@ -17,29 +17,29 @@ use Rattle.text.specs.Reading.{Reader, expression-byte, pass, number, expressio
 use Rattle.text.specs.Sizes.{expression-records, expression-depth, expression-names}
 use Rattle.text_shape.specs.Shape.{width-of}
 use Rattle.text_shape.proofs.Constants.{Begins, is-constant}
-use Rattle.text_conditions.specs.Code.{Sized, expressions, numbers, Marked, Told, Answered, Given}
+use Rattle.text_conditions.specs.Code.{Sized, expressions, numbers, Noted, ReadAs, Answered, Given}
 use Rattle.text_conditions.specs.Code.{expression-parts, together}
 use Rattle.text_conditions.specs.declared.PartReading.{PartReading}
 use Rattle.text_conditions.specs.declared.PartReading.the-variants.{Read, Refused}
 
--- ---- Marks
+-- ---- Names noted
 
--- Where nothing is named the marks stay,
-pub marked-none : (m : List ℕ) → Marked (λ w. false) m m
-marked-none m = record { kept = refl; at = λ w h. refl }
+-- Where nothing is named the notes stay,
+pub noted-none : (m : List ℕ) → Noted (λ w. false) m m
+noted-none m = record { kept = refl; at = λ w h. refl }
 
--- one variable is marked,
-pub marked-one : (m : List ℕ) (v : ℕ) → length m ≡ 64 → v < 64 → Marked (eqb v) m (set m v 1)
-marked-one m v n h = record { kept = length-set m v 1; at = λ w g. by w (eqb v w) refl }
+-- one variable is noted,
+pub noted-one : (m : List ℕ) (v : ℕ) → length m ≡ 64 → v < 64 → Noted (eqb v) m (set m v 1)
+noted-one m v n h = record { kept = length-set m v 1; at = λ w g. by w (eqb v w) refl }
   where
     by : (w : ℕ) (t : Bool) → eqb v w ≡ t → getD (set m v 1) w 0 ≡ (if t then 1 else getD m w 0)
     by w true e = rw (← eqb-true v w e) (getD-set-same m v 1 0 (omega arith))
     by w false e = getD-set-other m v w 1 0 (λ s. eqb-false v w e (sym s))
 
--- and what is named by either of two parts in a row is marked after both.
-marked-both : {f g h : ℕ → Bool} {m m′ m″ : List ℕ} → Marked f m m′ → Marked g m′ m″
-    → ((w : ℕ) → h w ≡ (f w || g w)) → Marked h m m″
-marked-both {f} {g} {h} {m} {m′} {m″} x y e = record {
+-- and what is named by either of two parts in a row is noted after both.
+noted-both : {f g h : ℕ → Bool} {m m′ m″ : List ℕ} → Noted f m m′ → Noted g m′ m″
+    → ((w : ℕ) → h w ≡ (f w || g w)) → Noted h m m″
+noted-both {f} {g} {h} {m} {m′} {m″} x y e = record {
   kept = y .kept ∙ x .kept;
   at = λ w b. y .at w b ∙ (rw (x .at w b, e w) (either (f w) (g w) (getD m w 0)));
 }
@@ -57,10 +57,10 @@ pub declines : {A : Type 0} (K : Sized A) {k p : ℕ} {r : PartReading} (m m′ 
 unfolding Answered
 declines K m m′ e = e
 
-pub tells : {A : Type 0} (K : Sized A) (a : A) (n : ℕ) (m m′ : List ℕ) → Marked (K .names a) m m′
+pub tells : {A : Type 0} (K : Sized A) (a : A) (n : ℕ) (m m′ : List ℕ) → Noted (K .names a) m m′
     → Answered K (ok a n) (Read (K .records a) (K .depth a) n) m m′
 unfolding Answered
-tells K a n m m′ h = record { is = refl; marks = h }
+tells K a n m m′ h = record { is = refl; noted = h }
 
 -- ---- Parts in a row
 
@@ -68,7 +68,7 @@ tells K a n m m′ h = record { is = refl; marks = h }
 record Got {A : Type 0} (K : Sized A) (o : Outcome ℕ Refusal A) (n k d : ℕ) (m m′ : List ℕ) : Type 0 where
   pub part : A
   pub read : o ≡ ok part n
-  pub told : Told (Read k d n) n (K .records part) (K .depth part) (K .names part) m m′
+  pub read-as : ReadAs (Read k d n) n (K .records part) (K .depth part) (K .names part) m m′
 
 got : {A : Type 0} (K : Sized A) (o : Outcome ℕ Refusal A) {r : PartReading} {m m′ : List ℕ} {n k d : ℕ}
     → Answered K o r m m′ → r ≡ Read k d n → Got K o n k d m m′
@@ -76,13 +76,13 @@ unfolding Answered
 got K (ok a i) {n = n} h e =
     let is = h .is in
     let same : i ≡ n = cc in
-    record { part = a; read = ap (ok a) same; told = record { is = cc; marks = h .marks } }
+    record { part = a; read = ap (ok a) same; read-as = record { is = cc; noted = h .noted } }
 got K (ended (refusal k p)) h e = absurd (let no : _≡_ {A = ℕ} 0 1 = cc in omega arith)
 
--- There are as many marks then as before,
+-- There are as many notes then as before,
 pub as-many : {A : Type 0} (K : Sized A) (o : Outcome ℕ Refusal A) {r : PartReading} (m m′ : List ℕ) {n k d : ℕ}
     → Answered K o r m m′ → r ≡ Read k d n → length m′ ≡ length m
-as-many K o m m′ h e = got K o h e .told .marks .kept
+as-many K o m m′ h e = got K o h e .read-as .noted .kept
 
 -- so the next part is given what this one was.
 pub next-given : {A : Type 0} (K : Sized A) (o : Outcome ℕ Refusal A) {text : List ℕ} {r : PartReading} {m m′ : List ℕ}
@@ -100,11 +100,11 @@ after K a Q more lift = record {
 -- A part that was read, and an answer to the next
 joins : {A B : Type 0} (K : Sized A) (Q : Sized B) (a : A) (o : Outcome ℕ Refusal B) {r : PartReading}
     (r′ : PartReading) {n : ℕ} {m m′ : List ℕ} (m″ : List ℕ) (more lift : ℕ)
-    → Told r n (K .records a) (K .depth a) (K .names a) m m′
+    → ReadAs r n (K .records a) (K .depth a) (K .names a) m m′
     → Answered Q o r′ m′ m″ → Answered (after K a Q more lift) o (together r r′ more lift) m m″
 unfolding Answered together
 joins K Q a (ok b j) r′ m″ more lift x y =
-    record { is = rw (x .is, y .is); marks = marked-both (x .marks) (y .marks) (λ w. refl) }
+    record { is = rw (x .is, y .is); noted = noted-both (x .noted) (y .noted) (λ w. refl) }
 joins K Q a (ended (refusal k p)) r′ m″ more lift x y = rw (x .is, y)
 
 -- A construct f a has the sizes of a
@@ -119,7 +119,7 @@ makes : {A C : Type 0} (K : Sized A) (W : Sized C) (f : A → C) (o : Outcome �
 unfolding Answered give then′
 makes K W f (ok a j) r m m′ s h = record {
   is = rw (s .records a, s .depth a) (h .is);
-  marks = marked-both (marked-none m) (h .marks) (s .names a);
+  noted = noted-both (noted-none m) (h .noted) (s .names a);
 }
 makes K W f (ended (refusal k p)) r m m′ s h = h
 
@@ -149,7 +149,8 @@ module _ (text : List ℕ) {C : Type 0} (W : Sized C) where
       let g = got K (x (i + 1)) h e in
       let a = g .part in
       rw (g .read, j)
-      (makes (after K a Q more lift) W (f a) (y n) _ m m″ (same a) (joins K Q a (y n) r′ m″ more lift (g .told) h′))
+      (makes (after K a Q more lift) W (f a) (y n) _ m m″ (same a)
+      (joins K Q a (y n) r′ m″ more lift (g .read-as) h′))
 
   pub three : {A B D : Type 0} (K : Sized A) (Q : Sized B) (R : Sized D) (f : A → B → D → C) (x : Reader A)
       (y : Reader B) (z : Reader D) (i : ℕ) {r r′ : PartReading} (r″ : PartReading) (m m′ m″ m‴ : List ℕ)
@@ -166,7 +167,8 @@ module _ (text : List ℕ) {C : Type 0} (W : Sized C) where
       let b = g′ .part in
       rw (g .read, g′ .read, j′, j)
       (makes (after K a (after Q b R 0 0) more lift) W (f a b) (z n′) _ m m‴ (same a b)
-      (joins K (after Q b R 0 0) a (z n′) _ m‴ more lift (g .told) (joins Q R b (z n′) r″ m‴ 0 0 (g′ .told) h″)))
+      (joins K (after Q b R 0 0) a (z n′) _ m‴ more lift (g .read-as)
+      (joins Q R b (z n′) r″ m‴ 0 0 (g′ .read-as) h″)))
 
   -- The first part is refused,
   pub first-ends : {A : Type 0} (K : Sized A) (x : Reader A) (f : A → Reader C) (i : ℕ) {r : PartReading}

@@ -41,27 +41,27 @@ abbrev pub values : Bool → Sized ℕ
 values flag =
     record { records = λ v. if Bool·beq (eqb v 1) flag then 1 else 0; depth = λ v. 0; names = λ v w. false }
 
--- Marks before and after a part: 1 at each variable that it names, and as before elsewhere
-pub record Marked (named : ℕ → Bool) (before after : List ℕ) : Type 0 where
+-- The names noted before and after a part: 1 at each variable that it names, and as before elsewhere
+pub record Noted (named : ℕ → Bool) (before after : List ℕ) : Type 0 where
   pub kept : length after ≡ length before
   pub at : (w : ℕ) → w < 64 → getD after w 0 ≡ (if named w then 1 else getD before w 0)
 
--- An answer that a part was read: the position after it, its sizes, and the marks before and after it
-pub record Told (answer : PartReading) (next records depth : ℕ) (named : ℕ → Bool) (before after : List ℕ)
+-- An answer that a part was read: the position after it, its sizes, and the names noted before and after it
+pub record ReadAs (answer : PartReading) (next records depth : ℕ) (named : ℕ → Bool) (before after : List ℕ)
     : Type 0 where
   pub is : answer ≡ Read records depth next
-  pub marks : Marked named before after
+  pub noted : Noted named before after
 
--- The code's answer to a reading. A refusal leaves the marks free
+-- The code's answer to a reading. A refusal leaves the noted names free
 unfoldable pub Answered : {A : Type 0} → Sized A → Outcome ℕ Refusal A → PartReading → List ℕ → List ℕ → Type 0
 Answered size (ok a next) answer before after =
-    Told answer next (size .records a) (size .depth a) (size .names a) before after
+    ReadAs answer next (size .records a) (size .depth a) (size .names a) before after
 Answered size (ended (refusal number place)) answer before after = answer ≡ Refused number place
 
--- What reading a part is given: a text of at most 4,096 bytes, and marks for the 64 variables
-pub record Given (text marks : List ℕ) : Type 0 where
+-- What reading a part is given: a text of at most 4,096 bytes, and a note for each of the 64 variables
+pub record Given (text notes : List ℕ) : Type 0 where
   pub short : length text ≤ 4096
-  pub full : length marks ≡ 64
+  pub full : length notes ≡ 64
 
 -- A construct whose first byte is known, with the nesting left for its parts
 abbrev pub expression-parts : List ℕ → ℕ → ExpressionByte → Reader Expression

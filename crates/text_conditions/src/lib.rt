@@ -75,7 +75,7 @@ pub fn joined(first: PartReading, second: PartReading, more: u16, lift: u16) -> 
     }
 }
 
-// ---- Operands. Variables that are named are marked, by 1, in `named`, a byte for each variable.
+// ---- Operands. Variables that are named are noted, by 1, in `named`, a byte for each variable.
 
 // The constant at a position: its operand's bytes are there.
 fn constant(text: &[u8], at: usize) -> PartReading

@@ -1,5 +1,5 @@
--- The call `read` from its command's answer: too long, refused, bytes left over, or accepted. The marks, of which none
--- was set at first, are then the variables that the text names, so their count is n.
+-- The call `read` from its command's answer: too long, refused, bytes left over, or accepted. The notes, of which none
+-- was made at first, are then the variables that the text names, so their count is n.
 use mathlib.Core.Path.{_≡_, refl}
 use Prim.Native.Nat.{ℕ, zero, suc, _≤_, _<_}
 use native.Mathlib.Omega.{arith}
@@ -15,11 +15,11 @@ use Rattle.base.specs.Answers.{Refusal, refusal}
 use Rattle.text.specs.Reading.{command, all-read, read-text}
 use Rattle.text.specs.Sizes.{records, depth, names, how-many, cells}
 use Rattle.text.specs.Calls.{read-call}
-use Rattle.text_conditions.specs.Code.{Marked, Answered}
+use Rattle.text_conditions.specs.Code.{Noted, Answered}
 use Rattle.text_conditions.specs.declared.PartReading.{PartReading}
 use Rattle.text_conditions.specs.declared.PartReading.the-variants.{Read, Refused}
 use Rattle.text_commands.specs.Code.{commands}
-use Rattle.text_read.specs.Marks.{marked}
+use Rattle.text_read.specs.Noted.{noted}
 
 -- ---- How many are named
 
@@ -29,12 +29,12 @@ unfolding how-many
 same-count f g zero h = refl
 same-count f g (suc k) h = rw (h k (omega arith), same-count f g k (λ w l. h w (omega arith)))
 
--- Marks made from none are the variables named, of which there are 64.
-count-marks : (named : ℕ → Bool) (m : List ℕ) → Marked named (replicate 64 0) m
-    → how-many (marked m) (length m) ≡ how-many named 64
-count-marks named m h =
+-- Notes made from none are the variables named, of which there are 64.
+count-notes : (named : ℕ → Bool) (m : List ℕ) → Noted named (replicate 64 0) m
+    → how-many (noted m) (length m) ≡ how-many named 64
+count-notes named m h =
     rw (h .kept)
-    (same-count (marked m) named 64 (λ w l. rw (h .at w l, getD-replicate {A = ℕ} 64 w 0 0 l) (by (named w))))
+    (same-count (noted m) named 64 (λ w l. rw (h .at w l, getD-replicate {A = ℕ} 64 w 0 0 l) (by (named w))))
   where
     by : (t : Bool) → eqb (if t then 1 else 0) 1 ≡ t
     by true = refl
@@ -64,14 +64,14 @@ module _ (text : List ℕ) where
     -- or it is the whole text.
     pub call-accepted : (o : Outcome ℕ Refusal Command) → command text 64 0 ≡ o → {r : PartReading} (m : List ℕ)
         {n k d : ℕ} → Answered commands o r (replicate 64 0) m → r ≡ Read k d n → length text ≤ n
-        → gives (record { records = k; depth = d; cells = how-many (marked m) (length m) }) ≡ read-call text
+        → gives (record { records = k; depth = d; cells = how-many (noted m) (length m) }) ≡ read-call text
     unfolding Answered read-call read-text all-read and-then
     call-accepted (ok c i) q m {n} {k} {d} h e l =
         let is = h .is in
         let same : i ≡ n = cc in
         let same-records : k ≡ records c = cc in
         let same-depth : d ≡ depth c = cc in
-        let same-cells : how-many (marked m) (length m) ≡ cells c = count-marks (names c) m (h .marks) in
+        let same-cells : how-many (noted m) (length m) ≡ cells c = count-notes (names c) m (h .noted) in
         rw (
           le-leb (length text) 4096 short,
           q,

@@ -4,16 +4,16 @@ ghost use lib.ListN.{length};
 ghost use Rattle.text.specs.Sizes.{how-many};
 ghost use Rattle.text.specs.Calls.{read-call};
 ghost use Rattle.text.specs.Code.{sizes-answer};
-ghost use Rattle.text_read.specs.Marks.{marked};
+ghost use Rattle.text_read.specs.Noted.{noted};
 use base::VARIABLES;
 use text::Reading;
 use text::Sizes;
 use text_commands::command;
 use text_conditions::PartReading;
 
-// How many variables are marked.
+// How many variables are noted as named.
 fn count_named(named: &[u8]) -> usize
-    ensures { λ r. ⌜ r ≡ how-many (marked (now (named .entry))) (length (now (named .entry))) ⌝ }
+    ensures { λ r. ⌜ r ≡ how-many (noted (now (named .entry))) (length (now (named .entry))) ⌝ }
 {
     let mut n: usize = 0;
     let mut i: usize = 0;

@@ -6,7 +6,7 @@ use borrow.Author.Needs.{needs}
 use borrow.Author.Tests.{not-true, not-false, eq-eqb, ne-eqb, le-leb, lt-leb}
 use Rattle.base.specs.Answers.{gives, and-then}
 use Rattle.record.specs.Bytes.{assembly-kind, record-count}
-use Rattle.record_test.proofs.Testing.{tested-as, assembly-told}
+use Rattle.record_test.proofs.Testing.{tested-as, assembly-same}
 use Rattle.record.proofs.Tested.{records-length}
 use Rattle.machine.proofs.Calls.{assembly-tested}
 use Rattle.machine_step.specs.Steps.{assembly-of}
@@ -42,7 +42,7 @@ refused-10 : tie.Need-returns-3
 unfolding and-then
 refused-10 c =
     let no : tie.Then3 = search in
-    let f : tie.After-fault = search in
+    let f : tie.After-mismatch = search in
     let k : tie.After-assembly = search in
     let sized : tie.Else2 = search in
     let whole : tie.Else1 = search in
@@ -53,7 +53,7 @@ refused-10 c =
     ∙ sym
     (assembly-tested (s .code .now) (assembly-of (s .store .now) (s .stack .now))
     (sym (w .is-whole .ensures) ∙ not-false _ (whole .if1 .left)) (eq-eqb _ _ (sized .if2 .left))
-    (tested-as _ _ assembly-told (s .code .now) (k .assembly .ensures) (f .fault .ensures) .fails
+    (tested-as _ _ assembly-same (s .code .now) (k .assembly .ensures) (f .mismatch .ensures) .fails
     (no .if3 .taken)) refl)
 
 refused-11 : tie.Need-returns-4
@@ -61,14 +61,14 @@ unfolding and-then
 refused-11 c =
     let no : tie.Then4 = search in
     let all : tie.Else3 = search in
-    let f : tie.After-fault = search in
+    let f : tie.After-mismatch = search in
     let k : tie.After-assembly = search in
     let sized : tie.Else2 = search in
     let whole : tie.Else1 = search in
     let w : tie.After-is-whole = search in
     let a : tie.Start = search in
     let s = a .args in
-    let t = tested-as _ _ assembly-told (s .code .now) (k .assembly .ensures) (f .fault .ensures) in
+    let t = tested-as _ _ assembly-same (s .code .now) (k .assembly .ensures) (f .mismatch .ensures) in
     c .decline4 .ensures
     ∙ sym
     (assembly-tested (s .code .now) (assembly-of (s .store .now) (s .stack .now))
@@ -79,14 +79,14 @@ passed : tie.Need-returns-5
 unfolding and-then
 passed c =
     let all : tie.Else3 = search in
-    let f : tie.After-fault = search in
+    let f : tie.After-mismatch = search in
     let k : tie.After-assembly = search in
     let sized : tie.Else2 = search in
     let whole : tie.Else1 = search in
     let w : tie.After-is-whole = search in
     let a : tie.Start = search in
     let s = a .args in
-    let t = tested-as _ _ assembly-told (s .code .now) (k .assembly .ensures) (f .fault .ensures) in
+    let t = tested-as _ _ assembly-same (s .code .now) (k .assembly .ensures) (f .mismatch .ensures) in
     let P = t .passes (omega (arith, t .at-most, all .if3 .left)) in
     ap gives (sym (records-length assembly-kind (s .code .now) 0 (record-count (s .code .now)) (P .1)))
     ∙ sym

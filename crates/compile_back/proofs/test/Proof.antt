@@ -2,7 +2,7 @@
 use mathlib.Core.Path.{sym, _∙_}
 use borrow.Author.Needs.{needs}
 use borrow.Author.Tests.{not-true, not-false}
-use Rattle.compile_back.proofs.Tests.{tabled, not-whole, no-bytes, no-table, faulty, no-room, accepts}
+use Rattle.compile_back.proofs.Tests.{tabled, not-whole, no-bytes, no-table, mismatched, no-room, accepts}
 use Rattle.compile_back.proofs.test.Statement.{statement}
 use Rattle.compile_back.proofs.test.Tie as tie
 
@@ -32,7 +32,7 @@ test-spec =
     (λ c κs. search needs)
     (λ c.
     let bad : tie.Then3 = search in
-    let f : tie.After-fault = search in
+    let f : tie.After-mismatch = search in
     let m : tie.After-machine = search in
     let n : tie.After-n = search in
     let names : tie.After-names = search in
@@ -41,13 +41,13 @@ test-spec =
     let w : tie.After-is-whole = search in
     let x = tabled (sym (w .is-whole .ensures) ∙ not-false _ (on .if1 .left)) (long .if2 .left) (names .names .ensures)
     (n .n .given .1) in
-    c .decline4 .ensures ∙ faulty _ _ _ x (m .machine .ensures) (f .fault .ensures) (bad .if3 .taken))
+    c .decline4 .ensures ∙ mismatched _ _ _ x (m .machine .ensures) (f .mismatch .ensures) (bad .if3 .taken))
     (λ c. search needs)
     (λ c κs. search needs)
     (λ c.
     let short : tie.Then4 = search in
     let good : tie.Else3 = search in
-    let f : tie.After-fault = search in
+    let f : tie.After-mismatch = search in
     let m : tie.After-machine = search in
     let n : tie.After-n = search in
     let names : tie.After-names = search in
@@ -57,7 +57,7 @@ test-spec =
     let x = tabled (sym (w .is-whole .ensures) ∙ not-false _ (on .if1 .left)) (long .if2 .left) (names .names .ensures)
     (n .n .given .1) in
     c .decline5 .ensures
-    ∙ no-room _ _ _ x (m .machine .ensures) (f .fault .ensures) (good .if3 .left) (short .if4 .taken))
+    ∙ no-room _ _ _ x (m .machine .ensures) (f .mismatch .ensures) (good .if3 .left) (short .if4 .taken))
     (λ c.
     let none : tie.After-enum-told = search in
     let names : tie.After-names = search in
@@ -69,7 +69,7 @@ test-spec =
     (names .names .ensures) (none .enum-told .given .1))
     (λ c.
     let good : tie.Else3 = search in
-    let f : tie.After-fault = search in
+    let f : tie.After-mismatch = search in
     let m : tie.After-machine = search in
     let n : tie.After-n = search in
     let names : tie.After-names = search in
@@ -78,4 +78,4 @@ test-spec =
     let w : tie.After-is-whole = search in
     let x = tabled (sym (w .is-whole .ensures) ∙ not-false _ (on .if1 .left)) (long .if2 .left) (names .names .ensures)
     (n .n .given .1) in
-    accepts _ _ _ x (m .machine .ensures) (f .fault .ensures) (good .if3 .left) (c .if4 .left)))
+    accepts _ _ _ x (m .machine .ensures) (f .mismatch .ensures) (good .if3 .left) (c .if4 .left)))

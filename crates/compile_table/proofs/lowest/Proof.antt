@@ -4,7 +4,7 @@ use Prim.Native.Nat.{ℕ, _-_}
 use native.Mathlib.Omega.{arith}
 use lib.Pow.{pow-pos}
 use borrow.Author.Needs.{needs}
-use Rattle.compile_table.specs.Marks.{lowest}
+use Rattle.compile_table.specs.AddressMarks.{lowest}
 use Rattle.compile_table.proofs.Bits.{one-shifted}
 use Rattle.compile_table.proofs.lowest.Statement.{statement}
 use Rattle.compile_table.proofs.lowest.Tie as tie

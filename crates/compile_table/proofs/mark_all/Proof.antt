@@ -1,4 +1,4 @@
--- `mark_all` gathers the marks and counts the entries that are not 0, in one pass: those before v are seen.
+-- `mark_all` gathers the address marks and counts the entries that are not 0, in one pass: those before v are seen.
 use Prim.Native.Nat.{_-_}
 use native.Mathlib.Omega.{arith}
 use lib.ListN.{length}

@@ -1,4 +1,4 @@
--- `names` is the table's test: the word of its marks is looked at as a whole (Marks: WordTest).
+-- `names` is the table's test: the word of its address marks is looked at as a whole (AddressMarks: WordTest).
 use mathlib.Core.Path.{_≡_, refl, sym, ap, _∙_}
 use mathlib.Core.Bool.{Bool, true, false}
 use mathlib.Core.List.{List}
@@ -7,15 +7,16 @@ use native.Mathlib.Omega.{arith}
 use lib.ListN.{length}
 use borrow.Author.Needs.{needs}
 use Rattle.compile.specs.Table.{named-in, is-table}
-use Rattle.compile_table.specs.Marks.{marks, lowest}
+use Rattle.compile_table.specs.AddressMarks.{address-marks, lowest}
 use Rattle.compile_table.specs.Tested.{tested}
 use Rattle.compile_table.specs.declared.Named.the-variants.{Cells, NoTable}
 use Rattle.compile_table.proofs.Tested.{found-table, found-none}
-use Rattle.compile_table.proofs.Marks.{word-test}
+use Rattle.compile_table.proofs.AddressMarks.{word-test}
 use Rattle.compile_table.proofs.names.Statement.{statement}
 use Rattle.compile_table.proofs.names.Tie as tie
 
-module _ (t : List ℕ) {word n : ℕ} (size : length t ≡ 64) (whole : word ≡ marks t) (count : n ≡ named-in t) where
+module _ (t : List ℕ) {word n : ℕ} (size : length t ≡ 64) (whole : word ≡ address-marks t)
+    (count : n ≡ named-in t) where
   passes : word ≡ lowest n → Cells n ≡ tested t
   passes e = found-table t count (word-test t size .as-a-whole .1 (sym whole ∙ e ∙ ap lowest count))
 

@@ -13,7 +13,7 @@ use Rattle.record.specs.Records.{MachineCode}
 use Rattle.record.specs.Bytes.{machine-kind, whole-records, record-count, records-of}
 use Rattle.record.proofs.Tested.{records-length}
 use Rattle.record_test.specs.Tests.{code-tests}
-use Rattle.record_test.proofs.Testing.{tested-as, machine-told}
+use Rattle.record_test.proofs.Testing.{tested-as, machine-same}
 use Rattle.record_test.proofs.test_machine.Statement.{statement}
 use Rattle.record_test.proofs.test_machine.Tie as tie
 
@@ -43,7 +43,7 @@ refused-10 : tie.Need-returns-2
 unfolding and-then
 refused-10 c =
     let no : tie.Then2 = search in
-    let f : tie.After-fault = search in
+    let f : tie.After-mismatch = search in
     let k : tie.After-machine = search in
     let whole : tie.Else1 = search in
     let w : tie.After-is-whole = search in
@@ -52,7 +52,7 @@ refused-10 c =
     c .decline2 .ensures
     ∙ sym
     (number (s .code .now) (s .cells) (s .fits) (sym (w .is-whole .ensures) ∙ not-false _ (whole .if1 .left))
-    (tested-as _ _ (machine-told (s .cells)) (s .code .now) (k .machine .ensures) (f .fault .ensures) .fails
+    (tested-as _ _ (machine-same (s .cells)) (s .code .now) (k .machine .ensures) (f .mismatch .ensures) .fails
     (no .if2 .taken)) refl)
 
 refused-11 : tie.Need-returns-3
@@ -60,13 +60,13 @@ unfolding and-then
 refused-11 c =
     let no : tie.Then3 = search in
     let all : tie.Else2 = search in
-    let f : tie.After-fault = search in
+    let f : tie.After-mismatch = search in
     let k : tie.After-machine = search in
     let whole : tie.Else1 = search in
     let w : tie.After-is-whole = search in
     let a : tie.Start = search in
     let s = a .args in
-    let t = tested-as _ _ (machine-told (s .cells)) (s .code .now) (k .machine .ensures) (f .fault .ensures) in
+    let t = tested-as _ _ (machine-same (s .cells)) (s .code .now) (k .machine .ensures) (f .mismatch .ensures) in
     c .decline3 .ensures
     ∙ sym
     (number (s .code .now) (s .cells) (s .fits) (sym (w .is-whole .ensures) ∙ not-false _ (whole .if1 .left))
@@ -76,13 +76,13 @@ passed : tie.Need-returns-4
 unfolding and-then
 passed c =
     let all : tie.Else2 = search in
-    let f : tie.After-fault = search in
+    let f : tie.After-mismatch = search in
     let k : tie.After-machine = search in
     let whole : tie.Else1 = search in
     let w : tie.After-is-whole = search in
     let a : tie.Start = search in
     let s = a .args in
-    let t = tested-as _ _ (machine-told (s .cells)) (s .code .now) (k .machine .ensures) (f .fault .ensures) in
+    let t = tested-as _ _ (machine-same (s .cells)) (s .code .now) (k .machine .ensures) (f .mismatch .ensures) in
     let P = t .passes (omega (arith, t .at-most, all .if2 .left)) in
     ap gives (sym (records-length (machine-kind (s .cells)) (s .code .now) 0 (record-count (s .code .now)) (P .1)))
     ∙ sym

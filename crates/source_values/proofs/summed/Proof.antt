@@ -9,7 +9,7 @@ use mir.Facts.{toZ-ofZ}
 use borrow.Author.Needs.{needs}
 use Rattle.base.specs.Acts.{ok, then′, give}
 use Rattle.word.specs.Sums.{limited, sum32}
-use Rattle.source.specs.Rules.{state, lower, total, add}
+use Rattle.source.specs.Rules.{state, lower, in-range, add}
 use Rattle.source_values.specs.Placed.{_upto_, reaching}
 use Rattle.source_values.proofs.Steps.{spends, goes}
 use Rattle.source_values.proofs.summed.Statement.{statement}
@@ -24,7 +24,7 @@ returns : tie.Need-returns
 returns c = (λ h μ m. sym (spends _ _ _ (c .if1 .taken)), omega arith)
 
 returns-2 : tie.Need-returns-2
-unfolding then′ give lower total add sum32
+unfolding then′ give lower in-range add sum32
 returns-2 c =
     let sum : tie.After-add = search in
     let some : tie.Else1 = search in
@@ -36,13 +36,13 @@ returns-2 c =
           let high = max μ (h + a .high) in
           let one-less : suc h ≡ suc (suc h) - 1 = omega arith in
           ap₂ (λ z k. ok (z upto a .next) (state (a .left .now - 1) k high m)) z one-less
-          ∙ ap (λ t. reaching (a .next) (total t (state (a .left .now - 1) (suc (suc h) - 1) high m))) e
+          ∙ ap (λ t. reaching (a .next) (in-range t (state (a .left .now - 1) (suc (suc h) - 1) high m))) e
           ∙ sym (goes _ _ _ (some .if1 .left)),
       (s .pre, omega arith),
     )
 
 returns-3 : tie.Need-returns-3
-unfolding then′ give lower total add sum32
+unfolding then′ give lower in-range add sum32
 returns-3 c =
     let sum : tie.After-add = search in
     let some : tie.Else1 = search in
@@ -50,7 +50,8 @@ returns-3 c =
     let a = s .args in
     let e = sym (c .enum-told .given .1) ∙ sum .add .ensures ∙ sum-is s in (
       λ h μ m.
-          ap (λ t. reaching (a .next) (total t (state (a .left .now - 1) (suc (suc h) - 1) (max μ (h + a .high)) m))) e
+          let high = max μ (h + a .high) in
+          ap (λ t. reaching (a .next) (in-range t (state (a .left .now - 1) (suc (suc h) - 1) high m))) e
           ∙ sym (goes _ _ _ (some .if1 .left)),
       omega arith,
     )

@@ -17,7 +17,7 @@ use Rattle.text.proofs.Heads as heads
 use Rattle.text.proofs.Heads.{is-skip, is-assignment, is-sequence, is-choice, is-loop, is-no-command}
 use Rattle.text_conditions.specs.Code.{conditions, Answered}
 use Rattle.text_conditions.specs.declared.PartReading.the-variants.{Read}
-use Rattle.text_conditions.proofs.Parts.{marked-none, declines, tells, next-given, after, Alike}
+use Rattle.text_conditions.proofs.Parts.{noted-none, declines, tells, next-given, after, Alike}
 use Rattle.text_conditions.proofs.Parts.{two, three, first-ends, second-ends}
 use Rattle.text_conditions.proofs.Bounds.{room, small-together, condition-small}
 use Rattle.text_conditions.proofs.PartReading.decline.Reads as decline-reads
@@ -46,7 +46,7 @@ use Rattle.text_commands.proofs.+choice+command+repetition+sequence.Tie
 skip-told : (text : List ℕ) (i : ℕ) (m : List ℕ)
     → Answered commands ((do pass text 1; give SKIP) i) (Read 0 0 (i + 1)) m m
 unfolding pass give then′ records depth names
-skip-told text i m = tells commands SKIP (i + 1) m m (marked-none m)
+skip-told text i m = tells commands SKIP (i + 1) m m (noted-none m)
 
 sequence-alike : (c : Command) → Alike (after commands c commands 0 0) commands (λ d. c ⨾ d)
 unfolding records depth names

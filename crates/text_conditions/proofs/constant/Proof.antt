@@ -8,7 +8,7 @@ use Rattle.base.specs.Acts.{then′}
 use Rattle.text.specs.Reading.{there, number-due, number}
 use Rattle.text_shape.specs.Shape.{constant-width}
 use Rattle.text_conditions.specs.Code.{numbers}
-use Rattle.text_conditions.proofs.Parts.{marked-none, declines, tells}
+use Rattle.text_conditions.proofs.Parts.{noted-none, declines, tells}
 use Rattle.text_conditions.proofs.constant.Statement.{statement}
 use Rattle.text_conditions.proofs.constant.Tie as tie
 
@@ -37,4 +37,4 @@ constant-spec =
     let width = constant-width (getD (a .text .now) (a .at) 0) in
     let is = w .constant-width .ensures in
     rw (le-leb (a .at + 1 + width) (length (a .text .now)) (omega arith), is)
-    (tells numbers _ _ _ _ (marked-none m))))
+    (tells numbers _ _ _ _ (noted-none m))))

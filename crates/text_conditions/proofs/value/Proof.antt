@@ -7,7 +7,7 @@ use lib.ListN.{length}
 use Rattle.base.specs.Acts.{then′, give}
 use Rattle.text.specs.Reading.{there, due, pass, decline, operand}
 use Rattle.text_conditions.specs.Code.{values}
-use Rattle.text_conditions.proofs.Parts.{marked-none, declines, tells}
+use Rattle.text_conditions.proofs.Parts.{noted-none, declines, tells}
 use Rattle.text_conditions.proofs.value.Statement.{statement}
 use Rattle.text_conditions.proofs.value.Tie as tie
 
@@ -40,4 +40,4 @@ value-spec =
       le-leb _ 1 (small .if2 .left),
       c .value-records .ensures,
     )
-    (tells (values (a .flag)) _ _ _ _ (marked-none m))))
+    (tells (values (a .flag)) _ _ _ _ (noted-none m))))

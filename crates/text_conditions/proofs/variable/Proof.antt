@@ -7,7 +7,7 @@ use lib.ListN.{length}
 use Rattle.base.specs.Acts.{then′, give}
 use Rattle.text.specs.Reading.{there, due, pass, decline, operand}
 use Rattle.text_conditions.specs.Code.{variables}
-use Rattle.text_conditions.proofs.Parts.{marked-one, declines, tells}
+use Rattle.text_conditions.proofs.Parts.{noted-one, declines, tells}
 use Rattle.text_conditions.proofs.variable.Statement.{statement}
 use Rattle.text_conditions.proofs.variable.Tie as tie
 
@@ -37,4 +37,4 @@ variable-spec =
     let s : tie.Start = search in
     let a = s .args in
     rw (le-leb (a .at + 1) (length (a .text .now)) (omega arith), le-leb _ 63 (small .if2 .left))
-    (tells variables _ _ _ _ (marked-one _ _ (s .pre) (omega arith)))))
+    (tells variables _ _ _ _ (noted-one _ _ (s .pre) (omega arith)))))

@@ -12,8 +12,8 @@ use Rattle.word.proofs.Laws.{read-back}
 use Rattle.record.specs.Bytes.{record-at}
 use Rattle.record_test.specs.Code.{kind-of, is-some}
 use Rattle.record_test.proofs.Testing.{stopped, passed}
-use Rattle.record_test.proofs.Kind.fault.Statement.{statement}
-use Rattle.record_test.proofs.Kind.fault.Tie as tie
+use Rattle.record_test.proofs.Kind.mismatch.Statement.{statement}
+use Rattle.record_test.proofs.Kind.mismatch.Tie as tie
 
 abbrev Inv-loop : tie.InvT-loop
 Inv-loop self code count i₀ i =
@@ -49,8 +49,8 @@ ends c =
     let a = s .args in
     passed (kind-of (a .self)) (a .code .now) (a .count) (turn .loop .i) (omega arith) (turn .loop .inv .1)
 
-pub fault-spec : {M : Type 1} → statement M
-fault-spec =
+pub mismatch-spec : {M : Type 1} → statement M
+mismatch-spec =
     tie.close
     (tie.spec
     Inv-loop

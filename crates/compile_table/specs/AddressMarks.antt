@@ -1,4 +1,4 @@
--- The marks of a table's addresses, kept as bits of one word (document 02, W4).
+-- The address marks of a table, kept as bits of one word (document 02, W4).
 use mathlib.Core.Path.{_≡_}
 use mathlib.Core.Bool.{Bool, true}
 use mathlib.Core.List.{List, [], _∷_}
@@ -15,10 +15,10 @@ unfoldable pub address-bit : ℕ → ℕ
 address-bit zero = 0
 address-bit (suc b) = if ltb b 64 then 2 ^ b else 0
 
--- "its marks as bits of one 64-bit word"
-unfoldable pub marks : List ℕ → ℕ
-marks [] = 0
-marks (x ∷ t) = bitOr (address-bit x) (marks t)
+-- "Address marks .. as bits of one 64-bit word"
+unfoldable pub address-marks : List ℕ → ℕ
+address-marks [] = 0
+address-marks (x ∷ t) = bitOr (address-bit x) (address-marks t)
 
 -- whether bit b of a word is set; the lowest is bit 0
 unfoldable pub bit : ℕ → ℕ → Bool
@@ -31,12 +31,12 @@ lowest n = 2 ^ n - 1
 -- The request's sentence, of a table
 pub record ByWord (t : List ℕ) : Type 0 where
   -- "one 64-bit word, bit a − 1 for address a (an entry above 64 sets none)"
-  pub one-word : marks t < 2 ^ 64
-  pub marked : (b : ℕ) → (bit (marks t) b ≡ true) ↔ ((b < 64) × (1 ≤ times (suc b) t))
+  pub one-word : address-marks t < 2 ^ 64
+  pub marked : (b : ℕ) → (bit (address-marks t) b ≡ true) ↔ ((b < 64) × (1 ≤ times (suc b) t))
   -- "a table passes exactly when its n lowest bits are set and no other, n counting the nonzero entries"
-  pub passes : (is-table t ≡ true) ↔ ((b : ℕ) → bit (marks t) b ≡ ltb b (named-in t))
+  pub passes : (is-table t ≡ true) ↔ ((b : ℕ) → bit (address-marks t) b ≡ ltb b (named-in t))
   -- "look at the word as a whole"
-  pub as-a-whole : (is-table t ≡ true) ↔ (marks t ≡ lowest (named-in t))
+  pub as-a-whole : (is-table t ≡ true) ↔ (address-marks t ≡ lowest (named-in t))
 
 -- "for every table" of 64 bytes
 abbrev pub WordTest : Type 0
