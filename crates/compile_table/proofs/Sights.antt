@@ -58,7 +58,7 @@ module _ (code : List ℕ) (n i : ℕ) (few : n ≤ 64) (r : Record Address)
   tells-name : machine-kind n .is-name low ≡ true → named r ≡ some (address low) → Tells n r low
   tells-name e f = inr (f, leb-true 1 low (both (leb 1 low) (leb low n) e .0), address-at-most n low e)
 
-  tells : Tells n r (address-at code i)
+  tells : Tells n r (address-at code i .0)
   unfolding address-at operation
   tells = by (eqb byte 0x51) (eqb byte 0x53) refl refl
     where
@@ -195,38 +195,39 @@ module _ {code : List ℕ} {count n : ℕ} (x : Passed code count n) where
     stands : drop (i - 1) (x .records) ≡ one ∷ drop i (x .records)
     told : Tells n one a
 
-  in-front : {i a : ℕ} → 0 < i → i ≤ count → a ≡ address-at code (i - 1) → InFront i a
-  in-front {i} {a} l m e =
+  in-front : {i : ℕ} {a : Address} → 0 < i → i ≤ count → a ≡ address-at code (i - 1) → InFront i (a .0)
+  in-front {i} l m e =
       let d = record-due (machine-kind n) code (x .records) count (i - 1) (x .given) (omega arith) in
       let next : suc (i - 1) ≡ i = omega arith in
       record {
         one = d .due;
         stands = drop-one (x .records) (i - 1) (d .due) (d .listed) ∙ ap (λ i. d .due ∷ drop i (x .records)) next;
-        told = subst (Tells n (d .due)) (sym e) (tells code n (i - 1) (x .few) (d .due) (d .there));
+        told = subst (λ a. Tells n (d .due) (a .0)) (sym e) (tells code n (i - 1) (x .few) (d .due) (d .there));
       }
 
-  module _ {i seen a : ℕ} (s : Seen i seen) (l : 0 < i) (m : i ≤ count) (e : a ≡ address-at code (i - 1)) where
-    f : InFront i a
+  module _ {i seen : ℕ} {a : Address} (s : Seen i seen) (l : 0 < i) (m : i ≤ count)
+      (e : a ≡ address-at code (i - 1)) where
+    f : InFront i (a .0)
     f = in-front l m e
 
     one-more : {k : ℕ} → Sighted (f .one ∷ drop i (x .records)) k → Seen (i - 1) k
     one-more {k} = subst (λ Q. Sighted Q k) (sym (f .stands))
 
     -- nothing new,
-    pub seen-old : a ≤ seen → Seen (i - 1) seen
+    pub seen-old : a .0 ≤ seen → Seen (i - 1) seen
     seen-old h = one-more (names-old (f .one) _ s (f .told) h)
 
     -- the next address,
-    pub seen-next : a ≡ seen + 1 → Seen (i - 1) (seen + 1)
+    pub seen-next : a .0 ≡ seen + 1 → Seen (i - 1) (seen + 1)
     seen-next q =
-        let h : seen < a = omega arith in
+        let h : seen < a .0 = omega arith in
         one-more (names-next (f .one) _ s (is-new (f .one) (f .told) h .0) q)
 
-    pub seen-most : seen < a → a ≤ n
+    pub seen-most : seen < a .0 → a .0 ≤ n
     seen-most h = is-new (f .one) (f .told) h .1
 
     -- or one out of order
-    pub seen-other : seen < a → (a ≡ seen + 1 → ⊥) → false ≡ agrees (x .records) n
+    pub seen-other : seen < a .0 → (a .0 ≡ seen + 1 → ⊥) → false ≡ agrees (x .records) n
     seen-other h differs =
         let here = names-other (f .one) _ s (is-new (f .one) (f .told) h .0) h differs in
         simp (out-of-order (x .records) (i - 1) (ap (λ Q. in-order (addresses Q)) (f .stands) ∙ here))

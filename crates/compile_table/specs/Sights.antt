@@ -7,14 +7,15 @@ use lib.Dec.{eqb}
 use lib.ListN.{length, getD}
 use Rattle.base.specs.Acts.{if_then_else_}
 use Rattle.base.specs.Answers.{gives}
-use Rattle.record.specs.Records.{MachineCode}
+use Rattle.record.specs.Records.{MachineCode, address}
 use Rattle.record.specs.Bytes.{machine-kind, records-from}
+use Rattle.record.specs.declared.Address.{Address}
 
--- The address that a tested record at an index names, the lowest byte of its operand, since it is at most 64; 0 where the record
--- is neither MLOAD nor MSTORE
-unfoldable pub address-at : List ℕ → ℕ → ℕ
-address-at code i =
-    if eqb (getD code (5 * i) 0) 0x51 || eqb (getD code (5 * i) 0) 0x53 then getD code (5 * i + 1) 0 else 0
+-- The address that a tested record at an index names, the lowest byte of its operand, since it is at most 64. Addresses
+-- count from 1: address 0 where the record is neither MLOAD nor MSTORE, and names none
+unfoldable pub address-at : List ℕ → ℕ → Address
+address-at code i = address
+    (if eqb (getD code (5 * i) 0) 0x51 || eqb (getD code (5 * i) 0) 0x53 then getD code (5 * i + 1) 0 else 0)
 
 -- Code whose `count` records passed the test, with the n of a table
 pub record Passed (code : List ℕ) (count n : ℕ) : Type 0 where

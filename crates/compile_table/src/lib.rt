@@ -96,19 +96,20 @@ pub fn names(table: &[u8]) -> Named
 
 // ---- The table's n and the addresses in machine code
 
-// The address that the tested machine record at an index names, 0 if it names none.
-fn address_at(code: &[u8], i: usize) -> usize
+// The address that the tested machine record at an index names. Addresses count from 1: `Address(0)` is given where it
+// names none.
+fn address_at(code: &[u8], i: usize) -> Address
     requires { ⌜ 5 * i + 1 < length (now code) ⌝ }
     ensures { λ r. ⌜ r ≡ address-at (now (code .entry)) i ⌝ }
 {
     let byte = record::byte_at(code, i);
     if byte == MLOAD {
-        return record::name_at(code, i);
+        return Address(record::name_at(code, i));
     }
     if byte == MSTORE {
-        return record::name_at(code, i);
+        return Address(record::name_at(code, i));
     }
-    0
+    Address(0)
 }
 
 // Whether the addresses in machine code, at their first sight from the last record backwards, are 1, 2 and on to n. While
@@ -122,9 +123,10 @@ pub fn agrees(code: &[u8], count: usize, n: usize) -> bool
     while 0 < i {
         i -= 1;
         let address = address_at(code, i);
-        if seen < address {
+        let a = address.0;
+        if seen < a {
             seen += 1;
-            if address != seen {
+            if a != seen {
                 return false;
             }
         }

@@ -1,10 +1,11 @@
 -- `address_at` gives the name of MLOAD and MSTORE, told by their bytes.
-use mathlib.Core.Path.{sym, _∙_}
+use mathlib.Core.Path.{sym, ap, _∙_}
 use mathlib.Core.Bool.{or-true}
 use Prim.Native.Nat.{_*_}
 use lib.ListN.{getD}
 use borrow.Author.Needs.{needs}
 use borrow.Author.Tests.{eq-eqb, ne-eqb}
+use Rattle.record.specs.Records.{address}
 use Rattle.compile_table.specs.Sights.{address-at}
 use Rattle.compile_table.proofs.address_at.Statement.{statement}
 use Rattle.compile_table.proofs.address_at.Tie as tie
@@ -15,7 +16,7 @@ of-load c =
     let on : tie.Then1 = search in
     let b : tie.After-byte-at = search in
     let s : tie.Start = search in
-    c .name-at .ensures
+    ap address (c .name-at .ensures)
     ∙ simp (eq-eqb (getD (s .args .code .now) (5 * s .args .i) 0) 0x51 (sym (b .byte-at .ensures) ∙ on .if1 .taken))
 
 of-store : tie.Need-returns-2
@@ -24,7 +25,7 @@ of-store c =
     let on : tie.Then2 = search in
     let b : tie.After-byte-at = search in
     let s : tie.Start = search in
-    c .name-at2 .ensures
+    ap address (c .name-at2 .ensures)
     ∙ simp (
       eq-eqb (getD (s .args .code .now) (5 * s .args .i) 0) 0x53 (sym (b .byte-at .ensures) ∙ on .if2 .taken),
       or-true,
