@@ -41,7 +41,7 @@ pub fn test(code: &[u8], store: &[i32], stack: &[i32]) -> Count
 }
 
 // Steps until the run ends, from a machine in code that ends at position `last`.
-pub fn finish(
+fn finish(
     first: Machine,
     code: &[u8],
     store: &mut [i32],
