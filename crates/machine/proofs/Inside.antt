@@ -1,5 +1,5 @@
 -- A step keeps the position within the code, the stack within its depth, and of the memory whatever saving and poking
--- keep; and so does a run, its mark staying within the depth too (Claims: Inside, Kept).
+-- keep; and so does a run, its mark staying within the depth too (Claims: Inside).
 -- `Goes x Q` says that Q holds of an outcome that is no fault.
 use mathlib.Core.Path.{_≡_, refl, subst}
 use Prim.Native.Nat.{ℕ, zero, suc, _≤_, _<_, max}
@@ -22,7 +22,12 @@ use Rattle.record.specs.Records.{Record, LOADI, LOAD, ADD, STORE, JMP, JMPLESS,
 use Rattle.base.specs.Ends.{Fault, fault, Result, result}
 use Rattle.machine.specs.Machine.{Memory, Machine, at, fresh, taken, pop, push}
 use Rattle.machine.specs.Machine.{held, keep, in-range, next, land, jump, act, after, due, run-at, run}
-use Rattle.machine.specs.Claims.{InBounds, Inside, Keeps, Kept}
+use Rattle.machine.specs.Claims.{InBounds, Inside}
+
+-- a property of memories that saving and poking keep
+pub record Keeps {M Name : Type 0} (D : ℕ) (o : Memory M Name) (Q : M → Type 0) : Type 0 where
+  pub saved : (m : M) (x : Name) (z : ℤ) → Q m → Q (o .save m x z)
+  pub poked : (m : M) (i : ℕ) (z : ℤ) → i < D → Q m → Q (o .poke m i z)
 
 -- what an outcome that is no fault owes
 abbrev Goes : {M A : Type 0} → Outcome (Machine M) Fault A → (A → Machine M → Type 0) → Type 0
@@ -169,7 +174,8 @@ module _ {M Name : Type 0} (sum : SumRule) (D : ℕ) (o : Memory M Name) (code :
   unfolding run
   keeps n μ s = run-bounded n (due sum D o code s) μ s refl
 
-  pub kept : Kept sum D o code Q
+  pub kept : (n μ : ℕ) (s : Machine M) → InBounds sum D o code μ s → Q (s .memory)
+      → Q (run sum D o code n μ s .leaves .memory)
   kept n μ s h q = keeps n μ s (h, q) .1
 
 pub inside : {M Name : Type 0} (sum : SumRule) (D : ℕ) (o : Memory M Name) (code : List (Record Name))

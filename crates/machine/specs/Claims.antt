@@ -3,10 +3,9 @@
 -- spent. The proof of the same spelling stands in proofs/.
 use mathlib.Core.Path.{_≡_}
 use mathlib.Core.Logic.{_⊎_}
-use Prim.Native.Nat.{ℕ, suc, _+_, _≤_, _<_}
+use Prim.Native.Nat.{ℕ, suc, _+_, _≤_}
 use mathlib.Core.List.{List}
 use mathlib.Core.Option.{none, some}
-use lib.IntN.{ℤ}
 use lib.ListN.{length, getElem?}
 use Rattle.base.specs.Acts.{ok, ended}
 use Rattle.word.specs.Sums.{SumRule}
@@ -58,30 +57,23 @@ module _ {M Name : Type 0} (sum : SumRule) (D : ℕ) (o : Memory M Name) (code :
   Inside = (n mark : ℕ) (s : Machine M) → InBounds mark s
       → let r = run sum D o code n mark s in InBounds (r .mark) (r .leaves)
 
--- ---- Frames of laws, from which other claims are proved. No reader has to believe them
+-- ---- A run in two parts
 
--- A rule that looks at the ticks left, in the first part of a run whose second part has b ticks
+-- In the first of two parts a rule for sums is asked with fewer ticks left than in the whole run. So the first part has
+-- the rule that counts the b ticks of the second as left too.
 abbrev pub ahead : ℕ → SumRule → SumRule
 ahead b sum = λ n x y. sum (n + b) x y
 
 module _ {M Name : Type 0} (sum : SumRule) (D : ℕ) (o : Memory M Name) (code : List (Record Name)) where
-  -- a result gone on with b ticks more: run on where the ticks were spent
+  -- A first part gone on with b ticks more: where it was spent, the machine that it left runs on with them, from its
+  -- mark; any other end stays, with b ticks more left.
   unfoldable pub resume : ℕ → End → ℕ → ℕ → Machine M → Result (Machine M)
   resume b End.done n mark s = result End.done (n + b) mark s
   resume b End.spent n mark s = run sum D o code b mark s
   resume b (fault e) n mark s = result (fault e) (n + b) mark s
 
-  -- A run with a + b ticks is a run with a ticks, gone on with b more.
+  -- A run with a + b ticks is the run with a ticks, gone on with b more: the same end, count, mark and machine. Runs in
+  -- pieces rest on it (document 02, W7).
   abbrev pub Split : Type 0
   Split = (a b mark : ℕ) (s : Machine M) → let r = run (ahead b sum) D o code a mark s in
       run sum D o code (a + b) mark s ≡ resume b (r .end) (r .left) (r .mark) (r .leaves)
-
--- a property of memories that saving and poking keep
-pub record Keeps {M Name : Type 0} (D : ℕ) (o : Memory M Name) (Q : M → Type 0) : Type 0 where
-  pub saved : (m : M) (x : Name) (z : ℤ) → Q m → Q (o .save m x z)
-  pub poked : (m : M) (i : ℕ) (z : ℤ) → i < D → Q m → Q (o .poke m i z)
-
--- A run keeps it too.
-abbrev pub Kept : {M Name : Type 0} → SumRule → (D : ℕ) → Memory M Name → List (Record Name) → (M → Type 0) → Type 0
-Kept {M = M} sum D o code Q = (n mark : ℕ) (s : Machine M) → InBounds sum D o code mark s
-    → Q (s .memory) → Q (run sum D o code n mark s .leaves .memory)

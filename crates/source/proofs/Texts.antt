@@ -11,7 +11,7 @@ use Rattle.base.specs.Answers.{Answer, gives}
 use Rattle.base.specs.Ends.{Fault, End, fault, Result, Ran, ran, report}
 use Rattle.base.proofs.Answers.{gives-one}
 use Rattle.word.specs.Sums.{sum32}
-use Rattle.word.proofs.Claims.{sum32-exact}
+use Rattle.word.proofs.Claims.{exact}
 use Rattle.text.specs.Syntax.{Command}
 use Rattle.text.specs.Reading.{read-text}
 use Rattle.source.specs.BigStep.{BigStep}
@@ -22,7 +22,7 @@ use Rattle.source.proofs.Calls.{source-runs}
 use Rattle.source.proofs.Equivalence.{published-by}
 
 pub published : Published
-published = published-by sum32 sum32-exact
+published = published-by sum32 exact
 
 -- an outcome whose result is done
 done-outcome : (x : Outcomes (Unit {0})) → result-of x .end ≡ End.done

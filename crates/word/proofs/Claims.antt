@@ -24,9 +24,9 @@ kept false true s z e = absurd (let no : _≡_ {A = ℕ} 0 1 = cc in omega arith
 kept false false s z e = cc
 
 -- A sum that fits is the sum.
-pub sum32-exact : Exact sum32
+pub exact : Exact sum32
 unfolding sum32 limited
-sum32-exact n x y z = kept (ltZ (x +ℤ y) least) (ltZ greatest (x +ℤ y)) (x +ℤ y) z
+exact n x y z = kept (ltZ (x +ℤ y) least) (ltZ greatest (x +ℤ y)) (x +ℤ y) z
 
 -- A number's four bytes give that number: its bytes joined are its bits, and its bits are read back.
 pub number-of-bytes : NumberOfBytes

@@ -11,7 +11,7 @@ use Rattle.word.specs.Targets.{target}
 use Rattle.word.specs.declared.Sum.the-variants.{Fits}
 use Rattle.word.specs.declared.Target.the-variants.{To}
 
--- A sum that fits is the sum.
+-- A sum that fits is the sum. So it is by document 01's rule, `sum32`.
 abbrev pub Exact : SumRule → Type 0
 Exact sum = (n : ℕ) (x y z : ℤ) → sum n x y ≡ Fits z → z ≡ x +ℤ y
 
