@@ -2,8 +2,10 @@
 
 use std::hint::black_box;
 
-use profile_tests::calls::{self, Answer};
-use profile_tests::generator::{self, Foreign, Random};
+use profile_tests::answers::Calls;
+use profile_tests::calls::Libraries;
+use profile_tests::foreign::Foreign;
+use profile_tests::generator::Random;
 
 use crate::compiler;
 use crate::cursor::Refusal;
@@ -91,7 +93,7 @@ fn foreign(records: usize) -> [(&'static str, Vec<u8>); 3] {
 /// Code with records, heights and jumps at random, of about so many records, with a stack of some depth.
 fn random(records: usize) -> Foreign {
     let least = records - records / 16;
-    (0..).map(|seed| generator::foreign(&mut Random::new(seed), least)).find(|foreign| foreign.depth > 3).unwrap()
+    (0..).map(|seed| Foreign::with_heights(&mut Random::new(seed), least)).find(|foreign| foreign.depth > 3).unwrap()
 }
 
 /// Foreign code, long and short, and what our compiler writes.
@@ -103,16 +105,16 @@ pub fn codes(texts: &[Text]) {
     }
     for records in [16, 64, 1024, 4096] {
         let Foreign { code, depth, cells } = random(records);
-        codes.push((format!("{} records at random", code.len() / 5), code, depth, cells));
+        codes.push((format!("{} records at random", code.len() / 5), code, depth as usize, cells as usize));
     }
     for (name, text) in texts {
         let (code, _, depth, cells) = compiled(text);
         codes.push((format!("{name}, {} records", code.len() / 5), code, depth, cells));
     }
     for (name, code, depth, cells) in codes {
-        let proved = || calls::inspect(black_box(&code), depth as u64, cells as u64);
+        let proved = || Libraries.inspect(black_box(&code), depth as u64, cells as u64);
         let plain = || inspect(black_box(&code), depth, cells);
-        assert_eq!((proved(), plain()), (Answer::Gives(code.len() / 5), Ok(code.len() / 5)), "{name}");
+        assert_eq!((proved(), plain()), (Ok(code.len() / 5), Ok(code.len() / 5)), "{name}");
         compare(&name, 2_000_000 / (20 + code.len() as u32 / 5), proved, plain);
     }
 }

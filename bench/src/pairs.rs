@@ -2,8 +2,9 @@
 
 use std::hint::black_box;
 
-use profile_tests::calls::{self, Answer, End, Ran};
-use profile_tests::generator::done_at_once;
+use profile_tests::answers::{Answer, Calls, End, Ran};
+use profile_tests::calls::Libraries;
+use profile_tests::foreign::done_at_once;
 
 use crate::cursor::Refusal;
 use crate::previews::count;
@@ -25,15 +26,15 @@ struct Pair<'a> {
 impl Pair<'_> {
     fn run(&self, budget: u32) -> (Answer<Ran>, [i32; 64]) {
         let mut store = *black_box(&STORE);
-        (calls::run_paired(black_box(self.code), self.table, &mut store, self.depth as u64, budget), store)
+        (Libraries.run_paired(black_box(self.code), self.table, &mut store, self.depth as u64, budget), store)
     }
 
     fn one_by_one(&self, budget: u32) -> (Answer<Ran>, [i32; 64]) {
         let (mut memory, mut store) = ([0; 129], *black_box(&STORE));
         let (memory, depth) = (&mut memory[..self.depth + 1 + self.cells], self.depth as u64);
-        calls::load(self.table, &store, depth, memory);
-        let ran = calls::run_machine(black_box(self.code), memory, depth, self.cells as u64, budget);
-        calls::read_back(self.table, memory, depth, &mut store);
+        let _ = Libraries.load(self.table, &store, depth, memory);
+        let ran = Libraries.run_machine(black_box(self.code), memory, depth, self.cells as u64, budget);
+        let _ = Libraries.read_back(self.table, memory, depth, &mut store);
         (ran, store)
     }
 
@@ -105,15 +106,15 @@ pub fn longest_code() {
         let code = done_at_once(cycle.into_iter().cycle().take(4095));
         let table = tables::table(n);
         let pair = Pair { code: &code, table: &table, depth: 64, cells: n };
-        let ran = Answer::Gives(Ran { end: End::Done, count: 1, mark: 0 });
+        let ran = Ok(Ran { end: End::Done, count: 1, mark: 0 });
         assert_eq!((pair.run(10), pair.one_by_one(10)), ((ran, STORE), (ran, STORE)));
         assert_eq!(pair.plain(10), (Ok(1 << 16), STORE));
         let times = medians([
             &mut repeat(CALLS, || {
-                black_box(pair.run(10));
+                let _ = black_box(pair.run(10));
             }),
             &mut repeat(CALLS, || {
-                black_box(pair.one_by_one(10));
+                let _ = black_box(pair.one_by_one(10));
             }),
             &mut repeat(CALLS, || {
                 black_box(pair.plain(10)).0.unwrap();

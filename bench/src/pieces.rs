@@ -2,7 +2,8 @@
 
 use std::hint::black_box;
 
-use profile_tests::calls::{self, Answer, State};
+use profile_tests::answers::{Calls, State};
+use profile_tests::calls::{exported, Libraries};
 
 use crate::executors::{self, Words};
 use crate::texts::Text;
@@ -13,17 +14,6 @@ use crate::translations::compiled;
 type GoOn = unsafe extern "C" fn(*const u8, usize, *mut i32, usize, u64, u64, *mut u32, usize, u32) -> u64;
 
 extern "C" {
-    fn probe_go_on(
-        code: *const u8,
-        code_len: usize,
-        memory: *mut i32,
-        memory_len: usize,
-        depth: u64,
-        cells: u64,
-        state: *mut u32,
-        state_len: usize,
-        budget: u32,
-    ) -> u64;
     fn plain_go_on(
         code: *const u8,
         code_len: usize,
@@ -69,7 +59,7 @@ impl Machine<'_> {
 
 /// Each gives the packed answer.
 fn proved(machine: &mut Machine, budget: u32) -> u64 {
-    machine.call(probe_go_on, budget)
+    machine.call(exported::probe_go_on, budget)
 }
 
 fn rust(machine: &mut Machine, budget: u32) -> u64 {
@@ -93,8 +83,8 @@ fn run(machine: &mut Machine, records: u32, piece: u32, go_on: impl Fn(&mut Mach
 fn run_whole(machine: &mut Machine, records: u32) {
     machine.clear();
     let (depth, cells) = (machine.depth as u64, machine.cells as u64);
-    let answer = calls::start(machine.code, &mut machine.memory, depth, cells, records);
-    let Answer::Gives((_, Some(State { position, size, count, mark }))) = answer else { panic!("{answer:?}") };
+    let answer = Libraries.start(machine.code, &mut machine.memory, depth, cells, records);
+    let Ok((_, Some(State { position, size, count, mark }))) = answer else { panic!("{answer:?}") };
     machine.state = [position, size, count, mark, 0, 0, 0];
 }
 

@@ -2,7 +2,8 @@
 
 use std::hint::black_box;
 
-use profile_tests::calls::{self, Answer, End, Ran};
+use profile_tests::answers::{Answer, Calls, End, Ran};
+use profile_tests::calls::Libraries;
 
 use crate::texts::Text;
 use crate::timing::{heading, medians, repeat, row};
@@ -31,7 +32,7 @@ fn mark(ran: Ran, budget: u32) -> u8 {
 }
 
 fn proved_mark(answer: Answer<Ran>, budget: u32) -> u8 {
-    let Answer::Gives(ran) = answer else { panic!("{answer:?}") };
+    let Ok(ran) = answer else { panic!("{answer:?}") };
     mark(ran, budget)
 }
 
@@ -46,7 +47,7 @@ type Store = [i32; 64];
 
 fn walk_proved(text: &[u8], store: &mut Store, ticks: u32) -> u8 {
     *store = [0; 64];
-    proved_mark(calls::run_source(text, store, ticks), ticks)
+    proved_mark(Libraries.run_source(text, store, ticks), ticks)
 }
 
 fn walk_rust(text: &[u8], store: &mut Store, ticks: u32) -> u8 {
@@ -99,7 +100,7 @@ pub fn assembly(loops: &[Text], ticks: u32) {
         let times = medians([
             &mut || {
                 proved = [0; 64];
-                marked = proved_mark(calls::run_assembly(&code, &mut proved, &mut stack, ticks), ticks);
+                marked = proved_mark(Libraries.run_assembly(&code, &mut proved, &mut stack, ticks), ticks);
             },
             &mut || {
                 rust = [0; 64];
@@ -128,7 +129,7 @@ pub fn machine(what: &str, loops: &[Text], ticks: u32) {
         let times = medians([
             &mut || {
                 proved.fill(0);
-                let ran = calls::run_machine(&code, &mut proved, depth as u64, cells as u64, ticks);
+                let ran = Libraries.run_machine(&code, &mut proved, depth as u64, cells as u64, ticks);
                 marked = proved_mark(ran, ticks);
             },
             &mut || {
@@ -153,21 +154,21 @@ pub fn short(texts: &[Text], budget: u32) {
     for (name, text) in texts {
         let proved = || {
             let mut store = [0; 64];
-            (calls::run_source(black_box(text), &mut store, budget), store)
+            (Libraries.run_source(black_box(text), &mut store, budget), store)
         };
         let rust = || {
             let mut store = [0; 64];
             reader::read(black_box(text)).unwrap();
-            (Answer::Gives(walker::run(text, &mut store, budget)), store)
+            (Answer::Ok(walker::run(text, &mut store, budget)), store)
         };
-        let (Answer::Gives(ran), store) = proved() else { panic!("{name}") };
-        assert_eq!((Answer::Gives(ran), store), rust());
+        let (Ok(ran), store) = proved() else { panic!("{name}") };
+        assert_eq!((Ok(ran), store), rust());
         let times = medians([
             &mut repeat(CALLS, || {
-                black_box(proved());
+                let _ = black_box(proved());
             }),
             &mut repeat(CALLS, || {
-                black_box(rust());
+                let _ = black_box(rust());
             }),
         ]);
         row(name, CALLS, times, &format!("{:>10}", ran.count));

@@ -2,7 +2,8 @@
 
 use std::hint::black_box;
 
-use profile_tests::calls::{self, Answer};
+use profile_tests::answers::{self, Calls};
+use profile_tests::calls::Libraries;
 
 use crate::cursor::Refusal;
 use crate::timing::{compare, heading};
@@ -92,9 +93,9 @@ pub fn test() {
     heading("test of a table, ns per call", &["plain Rust"], "");
     for n in NAMES {
         let (table, store) = (table(n), [3; 64]);
-        let proved = || calls::load(black_box(&table), &store, DEPTH as u64, &mut []);
+        let proved = || Libraries.load(black_box(&table), &store, DEPTH as u64, &mut []);
         let plain = || load(black_box(&table), &store, DEPTH, &mut []);
-        assert_eq!((proved(), plain()), (Answer::Refused { number: 11, place: 0 }, Err(Refusal(11, 0))));
+        assert_eq!((proved(), plain()), (Err(answers::Refusal(11, 0)), Err(Refusal(11, 0))));
         compare(&name(n), CALLS, proved, plain);
     }
 }
@@ -107,7 +108,7 @@ pub fn loading() {
         compare(
             &name(n),
             CALLS,
-            || calls::load(black_box(&table), &store, DEPTH as u64, &mut memory),
+            || Libraries.load(black_box(&table), &store, DEPTH as u64, &mut memory),
             || load(black_box(&table), &store, DEPTH, &mut plain_memory),
         );
         assert_eq!(memory, plain_memory);
@@ -122,7 +123,7 @@ pub fn reading_back() {
         compare(
             &name(n),
             CALLS,
-            || calls::read_back(black_box(&table), &memory, DEPTH as u64, &mut store),
+            || Libraries.read_back(black_box(&table), &memory, DEPTH as u64, &mut store),
             || read_back(black_box(&table), &memory, DEPTH, &mut plain_store),
         );
         assert_eq!(store, plain_store);

@@ -2,7 +2,8 @@
 
 use std::hint::black_box;
 
-use profile_tests::calls::{self, Answer};
+use profile_tests::answers::{self, Answer, Calls};
+use profile_tests::calls::Libraries;
 
 use crate::cursor::Sizes;
 use crate::texts::Text;
@@ -13,15 +14,15 @@ const CALLS: u32 = 2_000;
 /// Fewer calls where there are many rows.
 const SHAPE_CALLS: u32 = 200;
 
-fn sizes(answer: Answer<calls::Sizes>) -> Sizes {
-    let Answer::Gives(sizes) = answer else { panic!("{answer:?}") };
+fn sizes(answer: Answer<answers::Sizes>) -> Sizes {
+    let Ok(sizes) = answer else { panic!("{answer:?}") };
     (sizes.records as usize, sizes.depth as usize, sizes.cells as usize)
 }
 
 /// A text's assembly, with D and n.
 pub fn assembled(text: &[u8]) -> (Vec<u8>, usize, usize) {
     let mut code = vec![0; 5 * 4096];
-    let (records, depth, cells) = sizes(calls::assemble(text, &mut code));
+    let (records, depth, cells) = sizes(Libraries.assemble(text, &mut code));
     code.truncate(5 * records);
     (code, depth, cells)
 }
@@ -29,16 +30,16 @@ pub fn assembled(text: &[u8]) -> (Vec<u8>, usize, usize) {
 /// A text's machine code and table, with D and n.
 pub fn compiled(text: &[u8]) -> (Vec<u8>, Vec<u8>, usize, usize) {
     let (mut code, mut table) = (vec![0; 5 * 4096], vec![0; 64]);
-    let (records, depth, cells) = sizes(calls::compile(text, &mut code, &mut table));
+    let (records, depth, cells) = sizes(Libraries.compile(text, &mut code, &mut table));
     code.truncate(5 * records);
     (code, table, depth, cells)
 }
 
 fn read(text: &[u8], count: u32) -> [f64; 2] {
-    assert_eq!(Ok(sizes(calls::read(text))), reader::read(text));
+    assert_eq!(Ok(sizes(Libraries.read(text))), reader::read(text));
     medians([
         &mut repeat(count, || {
-            black_box(calls::read(black_box(text)));
+            let _ = black_box(Libraries.read(black_box(text)));
         }),
         &mut repeat(count, || {
             black_box(reader::read(black_box(text))).unwrap();
@@ -50,7 +51,7 @@ fn assemble(text: &[u8], count: u32) -> [f64; 2] {
     let [mut proved, mut rust] = [vec![0; 5 * 4096], vec![0; 5 * 4096]];
     let times = medians([
         &mut repeat(count, || {
-            black_box(calls::assemble(black_box(text), &mut proved));
+            let _ = black_box(Libraries.assemble(black_box(text), &mut proved));
         }),
         &mut repeat(count, || {
             black_box(compiler::assemble(black_box(text), &mut rust)).unwrap();
@@ -65,7 +66,7 @@ fn compile(text: &[u8], count: u32) -> [f64; 2] {
     let [mut table, mut rust_table] = [[0; 64]; 2];
     let times = medians([
         &mut repeat(count, || {
-            black_box(calls::compile(black_box(text), &mut proved, &mut table));
+            let _ = black_box(Libraries.compile(black_box(text), &mut proved, &mut table));
         }),
         &mut repeat(count, || {
             black_box(compiler::compile(black_box(text), &mut rust, &mut rust_table)).unwrap();
@@ -80,7 +81,7 @@ fn go_back(text: &[u8], count: u32) -> [f64; 2] {
     let [mut proved, mut rust] = [vec![0; code.len()], vec![0; code.len()]];
     let times = medians([
         &mut repeat(count, || {
-            black_box(calls::go_back(black_box(&code), &table, &mut proved));
+            let _ = black_box(Libraries.go_back(black_box(&code), &table, &mut proved));
         }),
         &mut repeat(count, || {
             black_box(compiler::go_back(black_box(&code), &table, &mut rust)).unwrap();

@@ -1,7 +1,7 @@
 //! A plain safe Rust walker over the text's bytes: the source rules as one would write them by hand.
 //! The text is one that reading accepts.
 
-use profile_tests::calls::{End, Ran};
+use profile_tests::answers::{End, Ran};
 
 struct Walker<'a> {
     text: &'a [u8],

@@ -1,9 +1,13 @@
-//! The exported functions. A slice is passed as a pointer and then a length; an answer comes back as one number, by the
-//! packing that `include/profile.h` describes.
+//! The calls by the proved libraries. A slice is passed as a pointer and then a length; an answer comes back as one
+//! number, by the packing that `include/profile.h` describes.
 
-mod exported {
+use crate::answers::{Answer, Calls, End, Piece, Ran, Refusal, Sizes, State};
+
+/// The functions as they are exported.
+pub mod exported {
     extern "C" {
         pub fn profile_read(text: *const u8, text_len: usize) -> u64;
+        pub fn probe_assemble(text: *const u8, text_len: usize, out: *mut u8, out_len: usize) -> u64;
         pub fn profile_compile(
             text: *const u8,
             text_len: usize,
@@ -12,15 +16,6 @@ mod exported {
             table: *mut u8,
             table_len: usize,
         ) -> u64;
-        pub fn profile_go_back(
-            code: *const u8,
-            code_len: usize,
-            table: *const u8,
-            table_len: usize,
-            out: *mut u8,
-            out_len: usize,
-        ) -> u64;
-        pub fn probe_assemble(text: *const u8, text_len: usize, out: *mut u8, out_len: usize) -> u64;
         pub fn probe_run_source(
             text: *const u8,
             text_len: usize,
@@ -57,17 +52,6 @@ mod exported {
             state: *mut u32,
             state_len: usize,
         ) -> u64;
-        pub fn probe_go_on(
-            code: *const u8,
-            code_len: usize,
-            memory: *mut i32,
-            memory_len: usize,
-            depth: u64,
-            cells: u64,
-            state: *mut u32,
-            state_len: usize,
-            budget: u32,
-        ) -> u64;
         pub fn probe_read_back(
             table: *const u8,
             table_len: usize,
@@ -77,16 +61,13 @@ mod exported {
             store: *mut i32,
             store_len: usize,
         ) -> u64;
-        pub fn probe_inspect(code: *const u8, code_len: usize, depth: u64, cells: u64) -> u64;
-        pub fn probe_run_paired(
+        pub fn profile_go_back(
             code: *const u8,
             code_len: usize,
             table: *const u8,
             table_len: usize,
-            store: *mut i32,
-            store_len: usize,
-            depth: u64,
-            budget: u32,
+            out: *mut u8,
+            out_len: usize,
         ) -> u64;
         pub fn probe_preview_source(
             text: *const u8,
@@ -111,62 +92,36 @@ mod exported {
             out: *mut i32,
             out_len: usize,
         ) -> u64;
+        pub fn probe_inspect(code: *const u8, code_len: usize, depth: u64, cells: u64) -> u64;
+        pub fn probe_run_paired(
+            code: *const u8,
+            code_len: usize,
+            table: *const u8,
+            table_len: usize,
+            store: *mut i32,
+            store_len: usize,
+            depth: u64,
+            budget: u32,
+        ) -> u64;
+        pub fn probe_go_on(
+            code: *const u8,
+            code_len: usize,
+            memory: *mut i32,
+            memory_len: usize,
+            depth: u64,
+            cells: u64,
+            state: *mut u32,
+            state_len: usize,
+            budget: u32,
+        ) -> u64;
     }
 }
-
-/// A call's result, or its refusal's number and place.
-#[derive(Clone, Copy, Debug, PartialEq, Eq)]
-pub enum Answer<T> {
-    Gives(T),
-    Refused { number: u8, place: u32 },
-}
-
-/// What reading and compiling give.
-#[derive(Clone, Copy, Debug, PartialEq, Eq)]
-pub struct Sizes {
-    pub records: u16,
-    pub depth: u8,
-    pub cells: u8,
-}
-
-#[derive(Clone, Copy, Debug, PartialEq, Eq)]
-pub enum End {
-    Done,
-    Spent,
-    OutOfRange,
-    Short,
-    Full,
-    Astray,
-}
-
-/// What a run gives.
-#[derive(Clone, Copy, Debug, PartialEq, Eq)]
-pub struct Ran {
-    pub end: End,
-    pub count: u32,
-    pub mark: u8,
-}
-
-/// A machine between two records: what a spent run hands out, and what a later call takes.
-#[derive(Clone, Copy, Debug, PartialEq, Eq)]
-pub struct State {
-    pub position: u32,
-    pub size: u32,
-    pub count: u32,
-    pub mark: u32,
-}
-
-/// A machine that has not run.
-pub const FRESH: State = State { position: 0, size: 0, count: 0, mark: 0 };
-
-/// What a run from a state gives: the run, and where it is spent the state that it hands out.
-pub type Piece = (Ran, Option<State>);
 
 /// The answer in bits 0 to 39: a refusal, or what `result` reads from the number.
 fn answer<T>(packed: u64, result: impl Fn(u64) -> T) -> Answer<T> {
     match packed as u8 {
-        0 => Answer::Gives(result(packed)),
-        number => Answer::Refused { number, place: (packed >> 8) as u32 },
+        0 => Ok(result(packed)),
+        number => Err(Refusal(number, (packed >> 8) as u32)),
     }
 }
 
@@ -194,48 +149,6 @@ fn count(packed: u64) -> usize {
     (packed >> 8) as usize
 }
 
-pub fn read(text: &[u8]) -> Answer<Sizes> {
-    answer(unsafe { exported::profile_read(text.as_ptr(), text.len()) }, sizes)
-}
-
-pub fn assemble(text: &[u8], out: &mut [u8]) -> Answer<Sizes> {
-    answer(unsafe { exported::probe_assemble(text.as_ptr(), text.len(), out.as_mut_ptr(), out.len()) }, sizes)
-}
-
-pub fn compile(text: &[u8], out: &mut [u8], table: &mut [u8]) -> Answer<Sizes> {
-    let (text_at, out_at, table_at) = (text.as_ptr(), out.as_mut_ptr(), table.as_mut_ptr());
-    let packed =
-        unsafe { exported::profile_compile(text_at, text.len(), out_at, out.len(), table_at, table.len()) };
-    answer(packed, sizes)
-}
-
-pub fn go_back(code: &[u8], table: &[u8], out: &mut [u8]) -> Answer<usize> {
-    let (code_at, table_at, out_at) = (code.as_ptr(), table.as_ptr(), out.as_mut_ptr());
-    let packed =
-        unsafe { exported::profile_go_back(code_at, code.len(), table_at, table.len(), out_at, out.len()) };
-    answer(packed, count)
-}
-
-pub fn run_source(text: &[u8], store: &mut [i32], budget: u32) -> Answer<Ran> {
-    let (text_at, store_at) = (text.as_ptr(), store.as_mut_ptr());
-    answer(unsafe { exported::probe_run_source(text_at, text.len(), store_at, store.len(), budget) }, ran)
-}
-
-pub fn run_assembly(code: &[u8], store: &mut [i32], stack: &mut [i32], budget: u32) -> Answer<Ran> {
-    let (code_at, store_at, stack_at) = (code.as_ptr(), store.as_mut_ptr(), stack.as_mut_ptr());
-    let packed = unsafe {
-        exported::probe_run_assembly(code_at, code.len(), store_at, store.len(), stack_at, stack.len(), budget)
-    };
-    answer(packed, ran)
-}
-
-pub fn load(table: &[u8], store: &[i32], depth: u64, memory: &mut [i32]) -> Answer<usize> {
-    let (table_at, store_at, memory_at) = (table.as_ptr(), store.as_ptr(), memory.as_mut_ptr());
-    let packed =
-        unsafe { exported::probe_load(table_at, table.len(), store_at, store.len(), depth, memory_at, memory.len()) };
-    answer(packed, count)
-}
-
 /// What a state's last three words hold before a call: they belong to later requests, and no call looks at them.
 const UNUSED: u32 = 0xa5a5_a5a5;
 
@@ -253,7 +166,7 @@ fn piece(packed: u64, lent: [u32; 7], left: [u32; 7]) -> Answer<Piece> {
         (ran, (ran.end == End::Spent).then_some(State { position, size, count, mark }))
     });
     match answer {
-        Answer::Gives((ran, Some(state))) => {
+        Ok((ran, Some(state))) => {
             assert_eq!((state.count, state.mark), (ran.count, ran.mark.into()), "{left:?}");
             assert_eq!(left[4..], [0; 3], "{answer:?}");
         }
@@ -262,89 +175,137 @@ fn piece(packed: u64, lent: [u32; 7], left: [u32; 7]) -> Answer<Piece> {
     answer
 }
 
-/// A run from a fresh machine, with the state that it hands out.
-pub fn start(code: &[u8], memory: &mut [i32], depth: u64, cells: u64, budget: u32) -> Answer<Piece> {
-    let lent = [UNUSED; 7];
-    let mut state = lent;
-    let (code_at, memory_at, state_at) = (code.as_ptr(), memory.as_mut_ptr(), state.as_mut_ptr());
-    let packed = unsafe {
-        exported::probe_run_machine(code_at, code.len(), memory_at, memory.len(), depth, cells, budget, state_at, 7)
-    };
-    piece(packed, lent, state)
-}
+/// The proved libraries.
+pub struct Libraries;
 
-/// The same without the state.
-pub fn run_machine(code: &[u8], memory: &mut [i32], depth: u64, cells: u64, budget: u32) -> Answer<Ran> {
-    match start(code, memory, depth, cells, budget) {
-        Answer::Gives((ran, _)) => Answer::Gives(ran),
-        Answer::Refused { number, place } => Answer::Refused { number, place },
+impl Calls for Libraries {
+    fn read(&self, text: &[u8]) -> Answer<Sizes> {
+        answer(unsafe { exported::profile_read(text.as_ptr(), text.len()) }, sizes)
     }
-}
 
-pub fn go_on(code: &[u8], memory: &mut [i32], depth: u64, cells: u64, from: State, budget: u32) -> Answer<Piece> {
-    let lent = words(from);
-    let mut state = lent;
-    let (code_at, memory_at, state_at) = (code.as_ptr(), memory.as_mut_ptr(), state.as_mut_ptr());
-    let packed = unsafe {
-        exported::probe_go_on(code_at, code.len(), memory_at, memory.len(), depth, cells, state_at, 7, budget)
-    };
-    piece(packed, lent, state)
-}
+    fn assemble(&self, text: &[u8], out: &mut [u8]) -> Answer<Sizes> {
+        answer(unsafe { exported::probe_assemble(text.as_ptr(), text.len(), out.as_mut_ptr(), out.len()) }, sizes)
+    }
 
-pub fn read_back(table: &[u8], memory: &[i32], depth: u64, store: &mut [i32]) -> Answer<usize> {
-    let (table_at, memory_at, store_at) = (table.as_ptr(), memory.as_ptr(), store.as_mut_ptr());
-    let packed = unsafe {
-        exported::probe_read_back(table_at, table.len(), memory_at, memory.len(), depth, store_at, store.len())
-    };
-    answer(packed, count)
-}
+    fn compile(&self, text: &[u8], out: &mut [u8], table: &mut [u8]) -> Answer<Sizes> {
+        let (text_at, out_at, table_at) = (text.as_ptr(), out.as_mut_ptr(), table.as_mut_ptr());
+        let packed =
+            unsafe { exported::profile_compile(text_at, text.len(), out_at, out.len(), table_at, table.len()) };
+        answer(packed, sizes)
+    }
 
-pub fn inspect(code: &[u8], depth: u64, cells: u64) -> Answer<usize> {
-    answer(unsafe { exported::probe_inspect(code.as_ptr(), code.len(), depth, cells) }, count)
-}
+    fn run_source(&self, text: &[u8], store: &mut [i32], budget: u32) -> Answer<Ran> {
+        let (text_at, store_at) = (text.as_ptr(), store.as_mut_ptr());
+        answer(unsafe { exported::probe_run_source(text_at, text.len(), store_at, store.len(), budget) }, ran)
+    }
 
-pub fn run_paired(code: &[u8], table: &[u8], store: &mut [i32], depth: u64, budget: u32) -> Answer<Ran> {
-    let (code_at, table_at, store_at) = (code.as_ptr(), table.as_ptr(), store.as_mut_ptr());
-    let packed = unsafe {
-        exported::probe_run_paired(code_at, code.len(), table_at, table.len(), store_at, store.len(), depth, budget)
-    };
-    answer(packed, ran)
-}
+    fn run_assembly(&self, code: &[u8], store: &mut [i32], stack: &mut [i32], budget: u32) -> Answer<Ran> {
+        let (code_at, store_at, stack_at) = (code.as_ptr(), store.as_mut_ptr(), stack.as_mut_ptr());
+        let packed = unsafe {
+            exported::probe_run_assembly(code_at, code.len(), store_at, store.len(), stack_at, stack.len(), budget)
+        };
+        answer(packed, ran)
+    }
 
-pub fn preview_source(text: &[u8], store: &[i32], budget: u32, out: &mut [i32]) -> Answer<Ran> {
-    let (text_at, store_at, out_at) = (text.as_ptr(), store.as_ptr(), out.as_mut_ptr());
-    let packed = unsafe {
-        exported::probe_preview_source(text_at, text.len(), store_at, store.len(), budget, out_at, out.len())
-    };
-    answer(packed, ran)
-}
+    fn load(&self, table: &[u8], store: &[i32], depth: u64, memory: &mut [i32]) -> Answer<usize> {
+        let (table_at, store_at, memory_at) = (table.as_ptr(), store.as_ptr(), memory.as_mut_ptr());
+        let packed = unsafe {
+            exported::probe_load(table_at, table.len(), store_at, store.len(), depth, memory_at, memory.len())
+        };
+        answer(packed, count)
+    }
 
-pub fn preview_machine(
-    code: &[u8],
-    memory: &[i32],
-    depth: u64,
-    table: &[u8],
-    store: &[i32],
-    budget: u32,
-    out: &mut [i32],
-) -> Answer<Ran> {
-    let (code_at, memory_at, table_at) = (code.as_ptr(), memory.as_ptr(), table.as_ptr());
-    let (store_at, out_at) = (store.as_ptr(), out.as_mut_ptr());
-    let packed = unsafe {
-        exported::probe_preview_machine(
-            code_at,
-            code.len(),
-            memory_at,
-            memory.len(),
-            depth,
-            table_at,
-            table.len(),
-            store_at,
-            store.len(),
-            budget,
-            out_at,
-            out.len(),
-        )
-    };
-    answer(packed, ran)
+    fn start(&self, code: &[u8], memory: &mut [i32], depth: u64, cells: u64, budget: u32) -> Answer<Piece> {
+        let lent = [UNUSED; 7];
+        let mut state = lent;
+        let (code_at, memory_at, state_at) = (code.as_ptr(), memory.as_mut_ptr(), state.as_mut_ptr());
+        let packed = unsafe {
+            exported::probe_run_machine(code_at, code.len(), memory_at, memory.len(), depth, cells, budget, state_at, 7)
+        };
+        piece(packed, lent, state)
+    }
+
+    fn read_back(&self, table: &[u8], memory: &[i32], depth: u64, store: &mut [i32]) -> Answer<usize> {
+        let (table_at, memory_at, store_at) = (table.as_ptr(), memory.as_ptr(), store.as_mut_ptr());
+        let packed = unsafe {
+            exported::probe_read_back(table_at, table.len(), memory_at, memory.len(), depth, store_at, store.len())
+        };
+        answer(packed, count)
+    }
+
+    fn go_back(&self, code: &[u8], table: &[u8], out: &mut [u8]) -> Answer<usize> {
+        let (code_at, table_at, out_at) = (code.as_ptr(), table.as_ptr(), out.as_mut_ptr());
+        let packed =
+            unsafe { exported::profile_go_back(code_at, code.len(), table_at, table.len(), out_at, out.len()) };
+        answer(packed, count)
+    }
+
+    fn preview_source(&self, text: &[u8], store: &[i32], budget: u32, out: &mut [i32]) -> Answer<Ran> {
+        let (text_at, store_at, out_at) = (text.as_ptr(), store.as_ptr(), out.as_mut_ptr());
+        let packed = unsafe {
+            exported::probe_preview_source(text_at, text.len(), store_at, store.len(), budget, out_at, out.len())
+        };
+        answer(packed, ran)
+    }
+
+    fn preview_machine(
+        &self,
+        code: &[u8],
+        memory: &[i32],
+        depth: u64,
+        table: &[u8],
+        store: &[i32],
+        budget: u32,
+        out: &mut [i32],
+    ) -> Answer<Ran> {
+        let (code_at, memory_at, table_at) = (code.as_ptr(), memory.as_ptr(), table.as_ptr());
+        let (store_at, out_at) = (store.as_ptr(), out.as_mut_ptr());
+        let packed = unsafe {
+            exported::probe_preview_machine(
+                code_at,
+                code.len(),
+                memory_at,
+                memory.len(),
+                depth,
+                table_at,
+                table.len(),
+                store_at,
+                store.len(),
+                budget,
+                out_at,
+                out.len(),
+            )
+        };
+        answer(packed, ran)
+    }
+
+    fn inspect(&self, code: &[u8], depth: u64, cells: u64) -> Answer<usize> {
+        answer(unsafe { exported::probe_inspect(code.as_ptr(), code.len(), depth, cells) }, count)
+    }
+
+    fn run_paired(&self, code: &[u8], table: &[u8], store: &mut [i32], depth: u64, budget: u32) -> Answer<Ran> {
+        let (code_at, table_at, store_at) = (code.as_ptr(), table.as_ptr(), store.as_mut_ptr());
+        let packed = unsafe {
+            exported::probe_run_paired(code_at, code.len(), table_at, table.len(), store_at, store.len(), depth, budget)
+        };
+        answer(packed, ran)
+    }
+
+    fn go_on(
+        &self,
+        code: &[u8],
+        memory: &mut [i32],
+        depth: u64,
+        cells: u64,
+        from: State,
+        budget: u32,
+    ) -> Answer<Piece> {
+        let lent = words(from);
+        let mut state = lent;
+        let (code_at, memory_at, state_at) = (code.as_ptr(), memory.as_mut_ptr(), state.as_mut_ptr());
+        let packed = unsafe {
+            exported::probe_go_on(code_at, code.len(), memory_at, memory.len(), depth, cells, state_at, 7, budget)
+        };
+        piece(packed, lent, state)
+    }
 }

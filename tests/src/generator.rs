@@ -1,4 +1,4 @@
-//! Texts, stores and codes from a seed.
+//! Texts, stores and tables from a seed.
 
 /// Numbers from a seed (splitmix64).
 pub struct Random(u64);
@@ -50,6 +50,20 @@ impl Random {
 
     pub fn bytes(&mut self, n: usize) -> Vec<u8> {
         (0..n).map(|_| self.bits() as u8).collect()
+    }
+
+    /// One of the bytes changed to any, where there is one.
+    pub fn change_byte(&mut self, bytes: &mut [u8]) {
+        if !bytes.is_empty() {
+            let at = self.below(bytes.len());
+            bytes[at] = self.bits() as u8;
+        }
+    }
+
+    /// One of a table's entries changed to a small one.
+    pub fn change_entry(&mut self, table: &mut [u8]) {
+        let at = self.below(64);
+        table[at] = self.below(8) as u8;
     }
 
     /// A budget: none, few ticks, or many.
@@ -248,36 +262,6 @@ pub fn damaged(mut text: Vec<u8>, random: &mut Random) -> Vec<u8> {
     text
 }
 
-/// Code of a kind, whose LOADI is `first`: records that are mostly good, of few names and short jumps.
-pub fn code(random: &mut Random, first: u8) -> Vec<u8> {
-    let mut code = Vec::new();
-    for _ in 0..random.below(12) {
-        let number = random.below(7) as u8;
-        let operand = match number {
-            0 => random.cell(),
-            1 | 3 => random.below(5) as i32,
-            2 => 0,
-            _ => random.below(9) as i32 - 4,
-        };
-        let other = random.one_in(60);
-        code.push(if other { random.bits() as u8 } else { first + number });
-        code.extend(if random.one_in(60) { random.cell() } else { operand }.to_le_bytes());
-    }
-    if random.one_in(30) {
-        code.pop();
-    }
-    code
-}
-
-/// Machine code that is done at once: a jump to the end, over records that name, from the last backwards, these addresses
-/// or, where it is 0, none.
-pub fn done_at_once(names: impl Iterator<Item = u8>) -> Vec<u8> {
-    let mut records: Vec<[u8; 5]> = names.map(|name| [if name == 0 { 0x50 } else { 0x53 }, name, 0, 0, 0]).collect();
-    let [low, high, ..] = records.len().to_le_bytes();
-    records.push([0x54, low, high, 0, 0]);
-    records.into_iter().rev().flatten().collect()
-}
-
 /// A table of so many names, the variables and their addresses in any order.
 pub fn table(random: &mut Random, n: usize) -> Vec<u8> {
     let mut table: Vec<u8> = (0..64).map(|v| if v < n { v as u8 + 1 } else { 0 }).collect();
@@ -285,106 +269,4 @@ pub fn table(random: &mut Random, n: usize) -> Vec<u8> {
         table.swap(v, random.below(v + 1));
     }
     table
-}
-
-/// Machine code with its D and n, as another tool than our compiler may write it.
-pub struct Foreign {
-    pub code: Vec<u8>,
-    pub depth: usize,
-    pub cells: usize,
-}
-
-/// Code to which heights can be given. The heights come first, each from the one before it by a push, a store, a sum, a
-/// comparing jump or, after a jump, freely; then the records, a jump going to any position of the height that it leaves.
-pub fn foreign(random: &mut Random, most: usize) -> Foreign {
-    let (depth, cells) = (random.below(7), 1 + random.below(3));
-    let mut heights = vec![0usize];
-    let mut jumps = Vec::new();
-    while heights.len() <= most || *heights.last().unwrap() != 0 {
-        let height = *heights.last().unwrap();
-        let jump = random.one_in(8) || depth == 0;
-        jumps.push(jump);
-        heights.push(match random.below(3) {
-            _ if jump => random.below(depth + 1),
-            0 if height >= 2 => height - 2,
-            1 if height >= 1 => height - 1,
-            _ if height < depth => height + 1,
-            _ => height - 1,
-        });
-    }
-    let mut code = Vec::new();
-    for (p, &jump) in jumps.iter().enumerate() {
-        let (height, next) = (heights[p], heights[p + 1]);
-        let left = if jump { height } else { next };
-        let targets: Vec<usize> = (0..heights.len()).filter(|&q| heights[q] == left).collect();
-        let by = targets[random.below(targets.len())] as i32 - (p as i32 + 1);
-        let name = 1 + random.below(cells) as i32;
-        let (number, operand) = match height.cmp(&next) {
-            _ if jump => (4, by),
-            std::cmp::Ordering::Less if random.one_in(2) => (0, random.cell()),
-            std::cmp::Ordering::Less => (1, name),
-            _ if next + 2 == height => (5 + random.below(2) as u8, by),
-            _ if height >= 2 && random.one_in(2) => (2, 0),
-            _ => (3, name),
-        };
-        code.push(0x50 + number);
-        code.extend(operand.to_le_bytes());
-    }
-    Foreign { code, depth, cells }
-}
-
-impl Foreign {
-    /// The addresses numbered anew by their first sight from the last record backwards; n is then how many are named.
-    pub fn renumber(&mut self) {
-        let mut seen: Vec<[u8; 4]> = Vec::new();
-        for record in self.code.chunks_exact_mut(5).rev().filter(|record| [0x51, 0x53].contains(&record[0])) {
-            let address = record[1..].try_into().unwrap();
-            let at = seen.iter().position(|&one| one == address).unwrap_or(seen.len());
-            if at == seen.len() {
-                seen.push(address);
-            }
-            record[1..].copy_from_slice(&(at as i32 + 1).to_le_bytes());
-        }
-        self.cells = seen.len();
-    }
-
-    /// One of its jumps, where it has any, sent out of the code.
-    pub fn stray(&mut self, random: &mut Random) {
-        let jumps: Vec<usize> = (0..self.code.len()).step_by(5).filter(|&at| self.code[at] >= 0x54).collect();
-        if !jumps.is_empty() {
-            let at = jumps[random.below(jumps.len())];
-            let by = [-5000, 5000, i32::MIN, i32::MAX][random.below(4)];
-            self.code[at + 1..at + 5].copy_from_slice(&by.to_le_bytes());
-        }
-    }
-
-    /// One record exchanged, dropped or doubled, one operand changed, or one stack cell less.
-    pub fn damage(&mut self, random: &mut Random) {
-        if self.code.is_empty() {
-            return;
-        }
-        let at = 5 * random.below(self.code.len() / 5);
-        let number = random.below(7) as u8;
-        match random.below(6) {
-            0 => self.depth = self.depth.saturating_sub(1),
-            1 => drop(self.code.drain(at..at + 5)),
-            2 => {
-                let record: Vec<u8> = self.code[at..at + 5].to_vec();
-                self.code.splice(at..at, record);
-            }
-            3 | 4 if self.code[at] >= 0x54 => {
-                let by = random.below(7) as i32 - 3;
-                self.code[at + 1..at + 5].copy_from_slice(&by.to_le_bytes());
-            }
-            _ => {
-                let operand = match number {
-                    1 | 3 => 1 + random.below(self.cells) as i32,
-                    2 => 0,
-                    _ => random.below(9) as i32 - 4,
-                };
-                self.code[at] = 0x50 + number;
-                self.code[at + 1..at + 5].copy_from_slice(&operand.to_le_bytes());
-            }
-        }
-    }
 }

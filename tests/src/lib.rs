@@ -1,9 +1,11 @@
-//! The calls of the proved libraries as safe Rust functions, the vectors, and a simple interpreter to match them with.
+//! The calls by the proved libraries and by a simple interpreter, the vectors, and what random tests are made of.
 
+pub mod answers;
+pub mod both;
 pub mod calls;
+pub mod foreign;
 pub mod generator;
 pub mod json;
-pub mod matching;
 pub mod model;
 pub mod programs;
 pub mod seeds;

@@ -1,7 +1,10 @@
-//! A simple interpreter of profiles, written from documents 01 and 02 alone: reading, the source rules, compilation, both
-//! executors, the way back, and the printing program. Plain rather than fast; nothing here is shared with the proved code.
+//! A simple interpreter of profiles, written from documents 01 and 02 alone: reading, the source rules, compilation,
+//! both executors, the way back, the calls, and the printing program. Plain rather than fast; nothing here is shared with
+//! the proved code.
 
 use std::fmt::Write;
+
+use crate::answers::{Answer, Calls, End, Piece, Ran, Refusal, Sizes, State, FRESH};
 
 // ---- Profile text
 
@@ -29,45 +32,42 @@ pub enum Command {
     While(Condition, Box<Command>),
 }
 
-/// A refusal's number and place.
-#[derive(Clone, Copy, Debug, PartialEq, Eq)]
-pub struct Refusal(pub u8, pub usize);
-
 struct Reader<'a> {
     text: &'a [u8],
     at: usize,
 }
 
 impl Reader<'_> {
-    fn byte(&mut self) -> Result<u8, Refusal> {
-        let byte = *self.text.get(self.at).ok_or(Refusal(1, self.text.len()))?;
+    fn byte(&mut self) -> Answer<u8> {
+        let byte = *self.text.get(self.at).ok_or(Refusal(1, self.text.len() as u32))?;
         self.at += 1;
         Ok(byte)
     }
 
-    /// A construct's first byte, the construct being at this nesting: 1, then 4.
-    fn first(&mut self, nesting: usize) -> Result<u8, Refusal> {
-        let byte = self.byte()?;
-        if nesting > 64 {
-            return Err(Refusal(4, self.at - 1));
-        }
-        Ok(byte)
+    /// A refusal at the byte that was read last.
+    fn refused<T>(&self, number: u8) -> Answer<T> {
+        Err(Refusal(number, self.at as u32 - 1))
     }
 
-    fn unknown<T>(&self) -> Result<T, Refusal> {
-        Err(Refusal(2, self.at - 1))
+    /// A construct's first byte, the construct being at this nesting: 1, then 4.
+    fn first(&mut self, nesting: usize) -> Answer<u8> {
+        let byte = self.byte()?;
+        if nesting > 64 {
+            return self.refused(4);
+        }
+        Ok(byte)
     }
 
     /// An operand byte of at most `most`: 1, then 3.
-    fn operand(&mut self, most: u8) -> Result<u8, Refusal> {
+    fn operand(&mut self, most: u8) -> Answer<u8> {
         let byte = self.byte()?;
         if byte > most {
-            return Err(Refusal(3, self.at - 1));
+            return self.refused(3);
         }
         Ok(byte)
     }
 
-    fn expression(&mut self, nesting: usize) -> Result<Expression, Refusal> {
+    fn expression(&mut self, nesting: usize) -> Answer<Expression> {
         Ok(match self.first(nesting)? {
             0x10 => {
                 let mut bytes = [0; 4];
@@ -80,21 +80,21 @@ impl Reader<'_> {
             0x12 => Expression::Plus(Box::new(self.expression(nesting + 1)?), Box::new(self.expression(nesting + 1)?)),
             // W1: the same constant as 0x10, in one signed byte
             0x13 => Expression::Constant(self.byte()? as i8 as i32),
-            _ => return self.unknown(),
+            _ => return self.refused(2),
         })
     }
 
-    fn condition(&mut self, nesting: usize) -> Result<Condition, Refusal> {
+    fn condition(&mut self, nesting: usize) -> Answer<Condition> {
         Ok(match self.first(nesting)? {
             0x20 => Condition::Bc(self.operand(1)? == 1),
             0x21 => Condition::Not(Box::new(self.condition(nesting + 1)?)),
             0x22 => Condition::And(Box::new(self.condition(nesting + 1)?), Box::new(self.condition(nesting + 1)?)),
             0x23 => Condition::Less(self.expression(nesting + 1)?, self.expression(nesting + 1)?),
-            _ => return self.unknown(),
+            _ => return self.refused(2),
         })
     }
 
-    fn command(&mut self, nesting: usize) -> Result<Command, Refusal> {
+    fn command(&mut self, nesting: usize) -> Answer<Command> {
         Ok(match self.first(nesting)? {
             0x00 => Command::Skip,
             0x01 => Command::Assign(self.operand(63)?, self.expression(nesting + 1)?),
@@ -105,50 +105,32 @@ impl Reader<'_> {
                 Box::new(self.command(nesting + 1)?),
             ),
             0x04 => Command::While(self.condition(nesting + 1)?, Box::new(self.command(nesting + 1)?)),
-            _ => return self.unknown(),
+            _ => return self.refused(2),
         })
     }
 }
 
-pub fn read_text(text: &[u8]) -> Result<Command, Refusal> {
+pub fn read_text(text: &[u8]) -> Answer<Command> {
     if text.len() > 4096 {
         return Err(Refusal(6, 0));
     }
     let mut reader = Reader { text, at: 0 };
     let command = reader.command(1)?;
     if reader.at < text.len() {
-        return Err(Refusal(5, reader.at));
+        return Err(Refusal(5, reader.at as u32));
     }
     Ok(command)
 }
 
 // ---- Source rules and ticks
 
-#[derive(Clone, Copy, Debug, PartialEq, Eq)]
-pub enum End {
-    Done,
-    Spent,
-    OutOfRange,
-    Short,
-    Full,
-    Astray,
-}
-
-/// What a run tells; the mark (W2) is the most values that the stack held during the run.
-#[derive(Clone, Copy, Debug, PartialEq, Eq)]
-pub struct Ran {
-    pub end: End,
-    pub count: u32,
-    pub mark: usize,
-}
-
 /// A run of the source rules: its store, its count, its budget; the values on the stack, and the most that there were.
 struct Source<'a> {
     store: &'a mut [i32],
     count: u32,
     budget: u32,
-    height: usize,
-    mark: usize,
+    height: u8,
+    mark: u8,
 }
 
 impl Source<'_> {
@@ -237,16 +219,6 @@ impl Source<'_> {
             }
         }
     }
-}
-
-pub fn run_source(text: &[u8], store: &mut [i32], budget: u32) -> Result<Ran, Refusal> {
-    let command = read_text(text)?;
-    if store.len() != 64 {
-        return Err(Refusal(8, 0));
-    }
-    let mut run = Source { store, count: 0, budget, height: 0, mark: 0 };
-    let end = run.execute(&command).err().unwrap_or(End::Done);
-    Ok(Ran { end, count: run.count, mark: run.mark })
 }
 
 // ---- Records and compilation
@@ -387,39 +359,14 @@ pub fn depth(command: &Command) -> usize {
     }
 }
 
-/// Record count, D and n.
-pub type Sizes = (usize, usize, usize);
-
 fn sizes(command: &Command) -> Sizes {
     let assembly = ccomp(command);
-    (assembly.len(), depth(command), named(&table(&assembly)))
-}
-
-pub fn read(text: &[u8]) -> Result<Sizes, Refusal> {
-    read_text(text).map(|command| sizes(&command))
-}
-
-pub fn assemble(text: &[u8], out: &mut [u8]) -> Result<Sizes, Refusal> {
-    let command = read_text(text)?;
-    write(&bytes(&ccomp(&command), 0x40), out)?;
-    Ok(sizes(&command))
-}
-
-pub fn compile(text: &[u8], out: &mut [u8], lent: &mut [u8]) -> Result<Sizes, Refusal> {
-    let command = read_text(text)?;
-    if lent.len() != 64 {
-        return Err(Refusal(8, 0));
-    }
-    let assembly = ccomp(&command);
-    let table = table(&assembly);
-    let machine: Vec<Record> = assembly.iter().map(|record| record.renamed(|v| table[v] as usize)).collect();
-    write(&bytes(&machine, 0x50), out)?;
-    lent.copy_from_slice(&table);
-    Ok(sizes(&command))
+    let n = named(&table(&assembly));
+    Sizes { records: assembly.len() as u16, depth: depth(command) as u8, cells: n as u8 }
 }
 
 /// Bytes after the last record keep their values; an output that is too short is refused.
-fn write(bytes: &[u8], out: &mut [u8]) -> Result<(), Refusal> {
+fn write(bytes: &[u8], out: &mut [u8]) -> Answer<()> {
     if out.len() < bytes.len() {
         return Err(Refusal(7, 0));
     }
@@ -429,7 +376,7 @@ fn write(bytes: &[u8], out: &mut [u8]) -> Result<(), Refusal> {
 
 // ---- The tests of code and tables
 
-fn whole(code: &[u8]) -> Result<(), Refusal> {
+fn whole(code: &[u8]) -> Answer<()> {
     if code.len() % 5 != 0 || code.len() / 5 > 4096 {
         return Err(Refusal(9, 0));
     }
@@ -437,14 +384,14 @@ fn whole(code: &[u8]) -> Result<(), Refusal> {
 }
 
 /// The records of code whose first byte and names are these; 10 at the first that is none.
-fn records(code: &[u8], first: u8, names: std::ops::RangeInclusive<u64>) -> Result<Vec<Record>, Refusal> {
+fn records(code: &[u8], first: u8, names: std::ops::RangeInclusive<u64>) -> Answer<Vec<Record>> {
     code.chunks(5)
         .enumerate()
         .map(|(index, bytes)| {
             let operand = i32::from_le_bytes(bytes[1..].try_into().unwrap());
             let named = || {
                 let name = u64::try_from(operand).ok().filter(|name| names.contains(name));
-                name.map(|name| name as usize).ok_or(Refusal(10, index))
+                name.map(|name| name as usize).ok_or(Refusal(10, index as u32))
             };
             match bytes[0].wrapping_sub(first) {
                 0 => Ok(Loadi(operand)),
@@ -454,19 +401,19 @@ fn records(code: &[u8], first: u8, names: std::ops::RangeInclusive<u64>) -> Resu
                 4 => Ok(Jmp(operand)),
                 5 => Ok(Jmpless(operand)),
                 6 => Ok(Jmpge(operand)),
-                _ => Err(Refusal(10, index)),
+                _ => Err(Refusal(10, index as u32)),
             }
         })
         .collect()
 }
 
 /// How many variables a table names.
-fn named(table: &[u8]) -> usize {
+pub fn named(table: &[u8]) -> usize {
     table.iter().filter(|&&entry| entry != 0).count()
 }
 
 /// 12: the nonzero entries are 1 to n, once each.
-fn tested(table: &[u8]) -> Result<usize, Refusal> {
+fn tested(table: &[u8]) -> Answer<usize> {
     let mut entries: Vec<usize> = table.iter().filter(|&&entry| entry != 0).map(|&entry| entry as usize).collect();
     entries.sort();
     if entries.iter().copied().eq(1..=entries.len()) {
@@ -513,17 +460,6 @@ impl Memory for Cells<'_> {
     }
 }
 
-/// A machine between two records; the mark is the most values that its stack held so far.
-#[derive(Clone, Copy, Debug, PartialEq, Eq)]
-pub struct State {
-    pub position: usize,
-    pub size: usize,
-    pub count: u32,
-    pub mark: usize,
-}
-
-const FRESH: State = State { position: 0, size: 0, count: 0, mark: 0 };
-
 /// What a record takes off the stack and what it then pushes.
 fn effect(record: Record) -> (usize, usize) {
     match record {
@@ -537,7 +473,7 @@ fn effect(record: Record) -> (usize, usize) {
 
 /// The record at the position, and the machine after it; or its end, which changes no cell.
 fn step(code: &[Record], memory: &mut dyn Memory, depth: usize, state: State) -> Result<State, End> {
-    let State { position, size, .. } = state;
+    let (position, size) = (state.position as usize, state.size as usize);
     let record = code[position];
     let (takes, puts) = effect(record);
     if size < takes {
@@ -561,15 +497,15 @@ fn step(code: &[Record], memory: &mut dyn Memory, depth: usize, state: State) ->
     if next < 0 || next > code.len() as i64 {
         return Err(End::Astray);
     }
-    let size = size - takes + puts;
-    Ok(State { position: next as usize, size, count: state.count, mark: state.mark.max(size) })
+    let size = (size - takes + puts) as u32;
+    Ok(State { position: next as u32, size, mark: state.mark.max(size), ..state })
 }
 
 /// Runs on from a machine, spent at the count `limit`: what the run tells, and the machine as it is then.
 fn run(code: &[Record], memory: &mut dyn Memory, depth: usize, from: State, limit: u32) -> (Ran, State) {
     let mut state = from;
     let end = loop {
-        if state.position == code.len() {
+        if state.position as usize == code.len() {
             break End::Done;
         }
         if state.count == limit {
@@ -581,132 +517,31 @@ fn run(code: &[Record], memory: &mut dyn Memory, depth: usize, from: State, limi
             Err(end) => break end,
         }
     };
-    (Ran { end, count: state.count, mark: state.mark }, state)
-}
-
-pub fn run_assembly(code: &[u8], store: &mut [i32], stack: &mut [i32], budget: u32) -> Result<Ran, Refusal> {
-    whole(code)?;
-    if store.len() != 64 {
-        return Err(Refusal(8, 0));
-    }
-    let records = records(code, 0x40, 0..=63)?;
-    let depth = stack.len();
-    if depth > 64 {
-        return Err(Refusal(11, 0));
-    }
-    Ok(run(&records, &mut AssemblyMemory { store, stack }, depth, FRESH, budget).0)
+    (Ran { end, count: state.count, mark: state.mark as u8 }, state)
 }
 
 /// 11: D or n above 64, or a memory that has not D + 1 + n cells.
-fn fits(depth: u64, n: u64, memory: &[i32]) -> Result<(), Refusal> {
+fn fits(depth: u64, n: u64, memory: &[i32]) -> Answer<()> {
     if depth > 64 || n > 64 || memory.len() as u64 != depth + 1 + n {
         return Err(Refusal(11, 0));
     }
     Ok(())
 }
 
-/// What a run of machine code gives: the run, and where it is spent the machine as it is then (W7).
-pub type Piece = (Ran, Option<State>);
-
-/// W7: goes on from a machine, the budget counting from there; or 9, 10, 11, 15.
-pub fn go_on(
-    code: &[u8],
-    memory: &mut [i32],
-    depth: u64,
-    n: u64,
-    from: State,
-    budget: u32,
-) -> Result<Piece, Refusal> {
-    whole(code)?;
-    let records = records(code, 0x50, 1..=n)?;
-    fits(depth, n, memory)?;
-    let depth = depth as usize;
-    let limit = from.count.checked_add(budget).ok_or(Refusal(15, 0))?;
-    if from.position > records.len() || from.size > from.mark || from.mark > depth {
-        return Err(Refusal(15, 0));
-    }
-    let (ran, state) = run(&records, &mut Cells { cells: memory, depth }, depth, from, limit);
-    Ok((ran, (ran.end == End::Spent).then_some(state)))
-}
-
-/// The same from a fresh machine, to which 15 never applies.
-pub fn start(code: &[u8], memory: &mut [i32], depth: u64, n: u64, budget: u32) -> Result<Piece, Refusal> {
-    go_on(code, memory, depth, n, FRESH, budget)
-}
-
-pub fn run_machine(code: &[u8], memory: &mut [i32], depth: u64, n: u64, budget: u32) -> Result<Ran, Refusal> {
-    start(code, memory, depth, n, budget).map(|(ran, _)| ran)
-}
-
 // ---- Loading, reading back, going back
 
 /// A table and a store, for a call that takes n from the table: 8, 12.
-fn cells_named(table: &[u8], store: &[i32]) -> Result<usize, Refusal> {
+fn cells_named(table: &[u8], store: &[i32]) -> Answer<usize> {
     if table.len() != 64 || store.len() != 64 {
         return Err(Refusal(8, 0));
     }
     tested(table)
 }
 
-fn loadable(table: &[u8], store: &[i32], depth: u64, memory: &[i32]) -> Result<usize, Refusal> {
+fn loadable(table: &[u8], store: &[i32], depth: u64, memory: &[i32]) -> Answer<usize> {
     let n = cells_named(table, store)?;
     fits(depth, n as u64, memory)?;
     Ok(n)
-}
-
-pub fn load(table: &[u8], store: &[i32], depth: u64, memory: &mut [i32]) -> Result<usize, Refusal> {
-    let n = loadable(table, store, depth, memory)?;
-    memory.fill(0);
-    for (v, &address) in table.iter().enumerate().filter(|(_, &address)| address != 0) {
-        memory[depth as usize + address as usize] = store[v];
-    }
-    Ok(n)
-}
-
-pub fn read_back(table: &[u8], memory: &[i32], depth: u64, store: &mut [i32]) -> Result<usize, Refusal> {
-    let n = loadable(table, store, depth, memory)?;
-    for (v, &address) in table.iter().enumerate().filter(|(_, &address)| address != 0) {
-        store[v] = memory[depth as usize + address as usize];
-    }
-    Ok(n)
-}
-
-pub fn go_back(code: &[u8], table: &[u8], out: &mut [u8]) -> Result<usize, Refusal> {
-    whole(code)?;
-    if table.len() != 64 {
-        return Err(Refusal(8, 0));
-    }
-    let n = tested(table)?;
-    let variable = |address: usize| table.iter().position(|&entry| entry as usize == address).unwrap();
-    let machine = records(code, 0x50, 1..=n as u64)?;
-    let assembly: Vec<Record> = machine.iter().map(|record| record.renamed(variable)).collect();
-    write(&bytes(&assembly, 0x40), out)?;
-    Ok(assembly.len())
-}
-
-// ---- Previews (W3)
-
-/// What the source run tells and would have left on a copy of the store.
-pub fn preview_source(text: &[u8], store: &[i32], budget: u32) -> Result<(Ran, Vec<i32>), Refusal> {
-    let mut copy = store.to_vec();
-    Ok((run_source(text, &mut copy, budget)?, copy))
-}
-
-/// What the loaded machine's run tells on a copy of its memory, and what reading back leaves of a copy of the store.
-pub fn preview_machine(
-    code: &[u8],
-    memory: &[i32],
-    depth: u64,
-    table: &[u8],
-    store: &[i32],
-    budget: u32,
-) -> Result<(Ran, Vec<i32>), Refusal> {
-    whole(code)?;
-    let n = cells_named(table, store)?;
-    let (mut cells, mut copy) = (memory.to_vec(), store.to_vec());
-    let ran = run_machine(code, &mut cells, depth, n as u64, budget)?;
-    read_back(table, &cells, depth, &mut copy)?;
-    Ok((ran, copy))
 }
 
 // ---- Inspection (W5)
@@ -749,7 +584,7 @@ fn heights(code: &[Record], depth: usize) -> Option<Vec<Option<usize>>> {
 }
 
 /// The heights of machine code, or 9, 10, 11 (D or n above 64), 13.
-pub fn inspected(code: &[u8], depth: u64, n: u64) -> Result<Vec<Option<usize>>, Refusal> {
+pub fn inspected(code: &[u8], depth: u64, n: u64) -> Answer<Vec<Option<usize>>> {
     whole(code)?;
     let records = records(code, 0x50, 1..=n)?;
     if depth > 64 || n > 64 {
@@ -758,14 +593,10 @@ pub fn inspected(code: &[u8], depth: u64, n: u64) -> Result<Vec<Option<usize>>, 
     heights(&records, depth as usize).ok_or(Refusal(13, 0))
 }
 
-pub fn inspect(code: &[u8], depth: u64, n: u64) -> Result<usize, Refusal> {
-    inspected(code, depth, n).map(|heights| heights.len() - 1)
-}
-
 // ---- A table tested against its code (W6)
 
 /// 14: "seen from the last record backwards, the addresses at their first sight are 1, 2 and on to n".
-fn agree(machine: &[Record], n: usize) -> Result<(), Refusal> {
+fn agree(machine: &[Record], n: usize) -> Answer<()> {
     let mut seen = Vec::new();
     for address in machine.iter().rev().filter_map(|record| record.name()) {
         if !seen.contains(&address) {
@@ -779,19 +610,155 @@ fn agree(machine: &[Record], n: usize) -> Result<(), Refusal> {
     }
 }
 
-/// Loads a memory of its own, runs and reads back, whatever the end; or 9, 8, 12, 10, 14, 11 (D above 64).
-pub fn run_paired(code: &[u8], table: &[u8], store: &mut [i32], depth: u64, budget: u32) -> Result<Ran, Refusal> {
-    whole(code)?;
-    let n = cells_named(table, store)?;
-    agree(&records(code, 0x50, 1..=n as u64)?, n)?;
-    if depth > 64 {
-        return Err(Refusal(11, 0));
+// ---- The calls
+
+/// The simple interpreter.
+pub struct Interpreter;
+
+impl Calls for Interpreter {
+    fn read(&self, text: &[u8]) -> Answer<Sizes> {
+        read_text(text).map(|command| sizes(&command))
     }
-    let mut memory = vec![0; depth as usize + 1 + n];
-    load(table, store, depth, &mut memory)?;
-    let ran = run_machine(code, &mut memory, depth, n as u64, budget)?;
-    read_back(table, &memory, depth, store)?;
-    Ok(ran)
+
+    fn assemble(&self, text: &[u8], out: &mut [u8]) -> Answer<Sizes> {
+        let command = read_text(text)?;
+        write(&bytes(&ccomp(&command), 0x40), out)?;
+        Ok(sizes(&command))
+    }
+
+    fn compile(&self, text: &[u8], out: &mut [u8], lent: &mut [u8]) -> Answer<Sizes> {
+        let command = read_text(text)?;
+        if lent.len() != 64 {
+            return Err(Refusal(8, 0));
+        }
+        let assembly = ccomp(&command);
+        let table = table(&assembly);
+        let machine: Vec<Record> = assembly.iter().map(|record| record.renamed(|v| table[v] as usize)).collect();
+        write(&bytes(&machine, 0x50), out)?;
+        lent.copy_from_slice(&table);
+        Ok(sizes(&command))
+    }
+
+    fn run_source(&self, text: &[u8], store: &mut [i32], budget: u32) -> Answer<Ran> {
+        let command = read_text(text)?;
+        if store.len() != 64 {
+            return Err(Refusal(8, 0));
+        }
+        let mut run = Source { store, count: 0, budget, height: 0, mark: 0 };
+        let end = run.execute(&command).err().unwrap_or(End::Done);
+        Ok(Ran { end, count: run.count, mark: run.mark })
+    }
+
+    fn run_assembly(&self, code: &[u8], store: &mut [i32], stack: &mut [i32], budget: u32) -> Answer<Ran> {
+        whole(code)?;
+        if store.len() != 64 {
+            return Err(Refusal(8, 0));
+        }
+        let records = records(code, 0x40, 0..=63)?;
+        let depth = stack.len();
+        if depth > 64 {
+            return Err(Refusal(11, 0));
+        }
+        Ok(run(&records, &mut AssemblyMemory { store, stack }, depth, FRESH, budget).0)
+    }
+
+    fn load(&self, table: &[u8], store: &[i32], depth: u64, memory: &mut [i32]) -> Answer<usize> {
+        let n = loadable(table, store, depth, memory)?;
+        memory.fill(0);
+        for (v, &address) in table.iter().enumerate().filter(|(_, &address)| address != 0) {
+            memory[depth as usize + address as usize] = store[v];
+        }
+        Ok(n)
+    }
+
+    /// Goes on from a fresh machine, to which 15 never applies.
+    fn start(&self, code: &[u8], memory: &mut [i32], depth: u64, n: u64, budget: u32) -> Answer<Piece> {
+        self.go_on(code, memory, depth, n, FRESH, budget)
+    }
+
+    fn read_back(&self, table: &[u8], memory: &[i32], depth: u64, store: &mut [i32]) -> Answer<usize> {
+        let n = loadable(table, store, depth, memory)?;
+        for (v, &address) in table.iter().enumerate().filter(|(_, &address)| address != 0) {
+            store[v] = memory[depth as usize + address as usize];
+        }
+        Ok(n)
+    }
+
+    fn go_back(&self, code: &[u8], table: &[u8], out: &mut [u8]) -> Answer<usize> {
+        whole(code)?;
+        if table.len() != 64 {
+            return Err(Refusal(8, 0));
+        }
+        let n = tested(table)?;
+        let variable = |address: usize| table.iter().position(|&entry| entry as usize == address).unwrap();
+        let machine = records(code, 0x50, 1..=n as u64)?;
+        let assembly: Vec<Record> = machine.iter().map(|record| record.renamed(variable)).collect();
+        write(&bytes(&assembly, 0x40), out)?;
+        Ok(assembly.len())
+    }
+
+    /// W3: what the source run tells and would have left on a copy of the store.
+    fn preview_source(&self, text: &[u8], store: &[i32], budget: u32, out: &mut [i32]) -> Answer<Ran> {
+        let mut copy = store.to_vec();
+        let ran = self.run_source(text, &mut copy, budget)?;
+        out.copy_from_slice(&copy);
+        Ok(ran)
+    }
+
+    /// W3: what the loaded machine's run tells on a copy of its memory, and what reading back leaves of a copy of the
+    /// store.
+    fn preview_machine(
+        &self,
+        code: &[u8],
+        memory: &[i32],
+        depth: u64,
+        table: &[u8],
+        store: &[i32],
+        budget: u32,
+        out: &mut [i32],
+    ) -> Answer<Ran> {
+        whole(code)?;
+        let n = cells_named(table, store)?;
+        let (mut cells, mut copy) = (memory.to_vec(), store.to_vec());
+        let ran = self.run_machine(code, &mut cells, depth, n as u64, budget)?;
+        self.read_back(table, &cells, depth, &mut copy)?;
+        out.copy_from_slice(&copy);
+        Ok(ran)
+    }
+
+    /// W5: the record count, or 9, 10, 11, 13.
+    fn inspect(&self, code: &[u8], depth: u64, n: u64) -> Answer<usize> {
+        inspected(code, depth, n).map(|heights| heights.len() - 1)
+    }
+
+    /// W6: loads a memory of its own, runs and reads back, whatever the end; or 9, 8, 12, 10, 14, 11 (D above 64).
+    fn run_paired(&self, code: &[u8], table: &[u8], store: &mut [i32], depth: u64, budget: u32) -> Answer<Ran> {
+        whole(code)?;
+        let n = cells_named(table, store)?;
+        agree(&records(code, 0x50, 1..=n as u64)?, n)?;
+        if depth > 64 {
+            return Err(Refusal(11, 0));
+        }
+        let mut memory = vec![0; depth as usize + 1 + n];
+        self.load(table, store, depth, &mut memory)?;
+        let ran = self.run_machine(code, &mut memory, depth, n as u64, budget)?;
+        self.read_back(table, &memory, depth, store)?;
+        Ok(ran)
+    }
+
+    /// W7: goes on from a machine, the budget counting from there; or 9, 10, 11, 15.
+    fn go_on(&self, code: &[u8], memory: &mut [i32], depth: u64, n: u64, from: State, budget: u32) -> Answer<Piece> {
+        whole(code)?;
+        let records = records(code, 0x50, 1..=n)?;
+        fits(depth, n, memory)?;
+        let depth = depth as usize;
+        let limit = from.count.checked_add(budget).ok_or(Refusal(15, 0))?;
+        if from.position as usize > records.len() || from.size > from.mark || from.mark as usize > depth {
+            return Err(Refusal(15, 0));
+        }
+        let (ran, state) = run(&records, &mut Cells { cells: memory, depth }, depth, from, limit);
+        Ok((ran, (ran.end == End::Spent).then_some(state)))
+    }
 }
 
 // ---- The printing program
@@ -804,11 +771,21 @@ fn spelled(record: Record, prefix: &str) -> String {
     }
 }
 
+/// How an end is printed; a text and what it compiles to come to no other.
+pub fn printed(end: End) -> &'static str {
+    match end {
+        End::Done => "done",
+        End::Spent => "spent",
+        End::OutOfRange => "range",
+        other => panic!("a text's run ended {other:?}"),
+    }
+}
+
 /// What the program prints for a text on standard input.
 pub fn show(text: &[u8]) -> String {
     let command = match read_text(text) {
         Ok(command) => command,
-        Err(Refusal(number, place)) => return format!("refused {number} at {place}\n"),
+        Err(refusal) => return format!("{refusal}\n"),
     };
     let assembly = ccomp(&command);
     let table = table(&assembly);
@@ -818,14 +795,8 @@ pub fn show(text: &[u8]) -> String {
         writeln!(out, "{position} {} | {}", spelled(record, ""), spelled(machine, "M")).unwrap();
     }
     let mut store = [0; 64];
-    let ran = run_source(text, &mut store, 1_000_000).unwrap();
-    let end = match ran.end {
-        End::Done => "done",
-        End::Spent => "spent",
-        End::OutOfRange => "range",
-        other => panic!("a source run ended {other:?}"),
-    };
-    writeln!(out, "run {end} {}", ran.count).unwrap();
+    let ran = Interpreter.run_source(text, &mut store, 1_000_000).unwrap();
+    writeln!(out, "run {} {}", printed(ran.end), ran.count).unwrap();
     for (v, value) in store.iter().enumerate().filter(|(v, _)| table[*v] != 0) {
         writeln!(out, "{v} {value}").unwrap();
     }

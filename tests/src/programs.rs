@@ -33,6 +33,13 @@ pub fn run(program: &str, arguments: &[&Path], input: &[u8]) -> Output {
     output(command)
 }
 
+/// What the printing program prints for a text.
+pub fn show(text: &[u8]) -> String {
+    let Output { status, out, error } = run("bin/show", &[], text);
+    assert_eq!((status, error.as_str()), (0, ""));
+    out
+}
+
 /// Runs a program whose input is a directory.
 pub fn run_on_directory(program: &str) -> Output {
     let mut command = command(program);

@@ -1,30 +1,33 @@
 //! `vectors/calls.jsonl`: single calls with every lent buffer before and after.
 
-use crate::calls::{Answer, End, Piece, Ran, Sizes, State};
+use std::fmt;
+
+use crate::answers::{Answer, End, Piece, Ran, Refusal, Sizes, State};
 use crate::json::Value;
 
 /// One line of the file.
 pub struct Call {
-    pub line: usize,
+    line: usize,
     pub name: String,
     value: Value,
 }
 
-/// The calls of a name, at least one.
-pub fn calls(name: &str) -> Vec<Call> {
+/// Where it stands.
+impl fmt::Display for Call {
+    fn fmt(&self, out: &mut fmt::Formatter) -> fmt::Result {
+        write!(out, "calls.jsonl, line {}: {}", self.line, self.name)
+    }
+}
+
+/// All lines of the file.
+pub fn calls() -> Vec<Call> {
     let path = concat!(env!("CARGO_MANIFEST_DIR"), "/vectors/calls.jsonl");
     let file = std::fs::read_to_string(path).unwrap();
-    let found: Vec<Call> = file
-        .lines()
-        .enumerate()
-        .map(|(i, line)| {
-            let value = Value::parse(line);
-            Call { line: i + 1, name: value.get("call").unwrap().text().to_string(), value }
-        })
-        .filter(|call| call.name == name)
-        .collect();
-    assert!(!found.is_empty(), "no vector of {name}");
-    found
+    let call = |(i, line)| {
+        let value = Value::parse(line);
+        Call { line: i + 1, name: value.get("call").unwrap().text().to_string(), value }
+    };
+    file.lines().enumerate().map(call).collect()
 }
 
 /// The texts of `vectors/texts`, each with the program's whole output.
@@ -83,9 +86,9 @@ impl Call {
 
     fn answer<T>(&self, result: impl Fn(&Self) -> T) -> Answer<T> {
         if self.value.get("out").unwrap().get("refused").is_some() {
-            return Answer::Refused { number: self.output("refused") as u8, place: self.output("at") as u32 };
+            return Err(Refusal(self.output("refused") as u8, self.output("at") as u32));
         }
-        Answer::Gives(result(self))
+        Ok(result(self))
     }
 
     pub fn sizes(&self) -> Answer<Sizes> {

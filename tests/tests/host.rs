@@ -1,11 +1,12 @@
-//! The C host of `examples/host.c`, built with the address and undefined-behaviour sanitizers, over all vectors' texts and
-//! damaged ones: its output is what the simple interpreter compiles.
+//! The C host of `examples/host.c`, built with the address and undefined-behaviour sanitizers, over all vectors' texts
+//! and damaged ones: its output is what the simple interpreter compiles.
 
 use std::fmt::Write;
 
-use profile_tests::generator::{self, Random};
+use profile_tests::answers::{Answer, Calls, Sizes};
+use profile_tests::model::Interpreter;
 use profile_tests::programs::{self, Output};
-use profile_tests::{model, vectors};
+use profile_tests::{generator, seeds, vectors};
 
 fn records(name: &str, code: &[u8]) -> String {
     code.chunks(5).map(|record| line(name, record)).collect()
@@ -19,23 +20,22 @@ fn line(name: &str, bytes: &[u8]) -> String {
     line + "\n"
 }
 
-/// What the host prints for a text, and its exit status.
-fn expected(text: &[u8]) -> (i32, String) {
-    let (records_count, depth, cells) = match model::read(text) {
-        Ok(sizes) => sizes,
-        Err(model::Refusal(number, place)) => return (1, format!("refused {number} at {place}\n")),
-    };
-    let (mut code, mut table, mut assembly) = (vec![0; 5 * records_count], vec![0; 64], vec![0; 5 * records_count]);
-    model::compile(text, &mut code, &mut table).unwrap();
-    model::assemble(text, &mut assembly).unwrap();
-    let sizes = format!("records {records_count} stack {depth} cells {cells}\n");
-    (0, sizes + &records("machine", &code) + &line("table", &table) + &records("assembly", &assembly))
+/// What the interpreter compiles, printed.
+fn compiled(text: &[u8]) -> Answer<String> {
+    let sizes = Interpreter.read(text)?;
+    let (mut code, mut table, mut assembly) = (vec![0; sizes.bytes()], vec![0; 64], vec![0; sizes.bytes()]);
+    Interpreter.compile(text, &mut code, &mut table)?;
+    Interpreter.assemble(text, &mut assembly)?;
+    let Sizes { records: count, depth, cells } = sizes;
+    let first = format!("records {count} stack {depth} cells {cells}\n");
+    Ok(first + &records("machine", &code) + &line("table", &table) + &records("assembly", &assembly))
 }
 
 fn check(text: &[u8], name: &str) {
     let file = programs::file(text);
     let Output { status, out, error } = programs::run("host", &[file.path()], &[]);
-    assert_eq!((status, out), expected(text), "{name}");
+    let expected = compiled(text).map_or_else(|refusal| (1, format!("{refusal}\n")), |out| (0, out));
+    assert_eq!((status, out), expected, "{name}");
     assert_eq!(error, "", "{name}");
 }
 
@@ -48,12 +48,12 @@ fn texts() {
 
 #[test]
 fn damaged_texts() {
-    for (path, text, _) in vectors::texts().into_iter().filter(|(_, text, _)| !text.is_empty()) {
-        let mut random = Random::new(text.len() as u64);
+    let texts: Vec<_> = vectors::texts().into_iter().filter(|(_, text, _)| !text.is_empty()).collect();
+    seeds::for_each_of(&texts, |(path, text, _), random| {
         for _ in 0..3 {
-            check(&generator::damaged(text.clone(), &mut random), &format!("{path}, damaged"));
+            check(&generator::damaged(text.clone(), random), &format!("{path}, damaged"));
         }
-    }
+    });
 }
 
 #[test]

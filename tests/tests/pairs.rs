@@ -1,9 +1,12 @@
 //! W6, a table tested against its code: what our compiler pairs runs as its text does; foreign pairs that agree, that
 //! disagree and of any kind, beside the simple interpreter and the calls made one by one.
 
-use profile_tests::calls::{self, Answer, End, Ran};
-use profile_tests::generator::{self, done_at_once, Foreign, Random};
-use profile_tests::{matching, model};
+use profile_tests::answers::{memory_cells, Answer, Calls, End, Ran, Refusal};
+use profile_tests::both::{both, Compiled};
+use profile_tests::calls::Libraries;
+use profile_tests::foreign::{self, done_at_once, record, Foreign};
+use profile_tests::generator::{self, Random};
+use profile_tests::{model, seeds};
 
 const TEXTS: u64 = 4000;
 const PAIRS: u64 = 10_000;
@@ -11,7 +14,7 @@ const PAIRS: u64 = 10_000;
 /// Ticks that most runs don't need.
 const MANY: u32 = 4000;
 
-const DISAGREE: Answer<Ran> = Answer::Refused { number: 14, place: 0 };
+const DISAGREE: Answer<Ran> = Err(Refusal(14, 0));
 
 /// What a paired run is lent, and its D.
 #[derive(Clone, Debug)]
@@ -32,26 +35,16 @@ fn names_one(record: &[u8]) -> bool {
 impl Pair {
     /// What our compiler writes, where the text is accepted.
     fn compiled(text: &[u8], random: &mut Random) -> Option<Pair> {
-        let (records, depth, _) = model::read(text).ok()?;
-        let (mut code, mut table) = (vec![0; 5 * records], vec![0; 64]);
-        assert!(matches!(calls::compile(text, &mut code, &mut table), Answer::Gives(_)));
-        Some(Pair { code, table, store: random.cells(64), depth: depth as u64 })
+        let Compiled { code, table, depth, .. } = Compiled::of(text).ok()?;
+        Some(Pair { code, table, store: random.cells(64), depth })
     }
 
-    /// Foreign code, as it is or damaged, with addresses that agree with its table.
+    /// Foreign code with addresses that agree with its table.
     fn foreign(random: &mut Random) -> Pair {
-        let most = [4, 12, 40, 300][random.below(4)];
-        let most = random.below(most + 1);
-        let mut foreign = generator::foreign(random, most);
-        for _ in 0..random.below(3) {
-            foreign.damage(random);
-        }
-        if random.one_in(4) {
-            foreign.stray(random);
-        }
+        let mut foreign = Foreign::any(random);
         foreign.renumber();
         let Foreign { code, depth, cells } = foreign;
-        Pair { code, table: generator::table(random, cells), store: random.cells(64), depth: depth as u64 }
+        Pair { code, table: generator::table(random, cells as usize), store: random.cells(64), depth }
     }
 
     /// One of both.
@@ -65,39 +58,31 @@ impl Pair {
 
     /// How many variables the table names.
     fn names(&self) -> usize {
-        self.table.iter().filter(|&&entry| entry != 0).count()
-    }
-
-    fn run(&self, budget: u32) -> Left {
-        let mut store = self.store.clone();
-        (calls::run_paired(&self.code, &self.table, &mut store, self.depth, budget), store)
-    }
-
-    fn by_interpreter(&self, budget: u32) -> Left {
-        let mut store = self.store.clone();
-        (matching::ran(model::run_paired(&self.code, &self.table, &mut store, self.depth, budget)), store)
+        model::named(&self.table)
     }
 
     /// Loading, running and reading back, each in its turn.
-    fn one_by_one(&self, budget: u32) -> Left {
+    fn one_by_one(&self, calls: &dyn Calls, budget: u32) -> Left {
         let (n, mut store) = (self.names(), self.store.clone());
-        let mut memory = vec![7; self.depth as usize + 1 + n];
-        assert_eq!(calls::load(&self.table, &store, self.depth, &mut memory), Answer::Gives(n));
-        let ran = calls::run_machine(&self.code, &mut memory, self.depth, n as u64, budget);
-        assert_eq!(calls::read_back(&self.table, &memory, self.depth, &mut store), Answer::Gives(n));
+        let mut memory = vec![7; memory_cells(self.depth, n as u64)];
+        assert_eq!(calls.load(&self.table, &store, self.depth, &mut memory), Ok(n));
+        let ran = calls.run_machine(&self.code, &mut memory, self.depth, n as u64, budget);
+        assert_eq!(calls.read_back(&self.table, &memory, self.depth, &mut store), Ok(n));
         (ran, store)
     }
 
-    /// What the call answers and leaves, as the simple interpreter has it: the store as it was where the call declines,
-    /// else what the three calls leave.
-    fn checked(&self, budget: u32, name: &str) -> Left {
-        let got = self.run(budget);
-        assert_eq!(got, self.by_interpreter(budget), "{name}: budget {budget}, {self:02x?}");
-        match got.0 {
-            Answer::Refused { .. } => assert_eq!(got.1, self.store, "{name}: budget {budget}, {self:02x?}"),
-            Answer::Gives(_) => assert_eq!(got, self.one_by_one(budget), "{name}: budget {budget}, {self:02x?}"),
+    /// What the call answers and leaves: the store as it was where the call declines, else what the three calls leave.
+    fn checked(&self, budget: u32) -> Left {
+        let given = (budget, self);
+        let left = both(&given, |calls| {
+            let mut store = self.store.clone();
+            (calls.run_paired(&self.code, &self.table, &mut store, self.depth, budget), store)
+        });
+        match left.0 {
+            Err(_) => assert_eq!(left.1, self.store, "{given:02x?}"),
+            Ok(_) => assert_eq!(left, both(&given, |calls| self.one_by_one(calls, budget)), "{given:02x?}"),
         }
-        got
+        left
     }
 }
 
@@ -112,8 +97,8 @@ struct Tally {
 impl Tally {
     fn add(&mut self, pair: &Pair, (answer, store): Left) {
         match answer {
-            Answer::Refused { number, .. } => self.refused[number as usize] += 1,
-            Answer::Gives(ran) => {
+            Err(Refusal(number, _)) => self.refused[number as usize] += 1,
+            Ok(ran) => {
                 self.ended[ran.end as usize] += 1;
                 self.changed[ran.end as usize] += u32::from(store != pair.store);
             }
@@ -121,10 +106,15 @@ impl Tally {
     }
 }
 
+/// What the source rules tell of a text, and the store as they leave it.
+fn by_rules(text: &[u8], start: &[i32], budget: u32) -> Left {
+    let mut store = start.to_vec();
+    (Libraries.run_source(text, &mut store, budget), store)
+}
+
 /// Budgets for a text: few ticks, any, around those that its run takes, and more than enough of them.
 fn budgets(text: &[u8], pair: &Pair, random: &mut Random) -> [u32; 6] {
-    let ran = calls::run_source(text, &mut pair.store.clone(), MANY);
-    let Answer::Gives(Ran { end, count, .. }) = ran else { panic!("{ran:?}") };
+    let Ran { end, count, .. } = by_rules(text, &pair.store, MANY).0.unwrap();
     let most = if end == End::Spent { 2 * MANY } else { u32::MAX };
     [random.below(8) as u32, random.budget(), count.saturating_sub(1), count, count + 1, most]
 }
@@ -133,33 +123,31 @@ fn budgets(text: &[u8], pair: &Pair, random: &mut Random) -> [u32; 6] {
 #[test]
 fn compiled_pairs() {
     let mut tally = Tally::default();
-    for seed in 0..TEXTS {
-        let random = &mut Random::new(seed);
-        let text = generator::text(random);
-        let Some(pair) = Pair::compiled(&text, random) else { continue };
-        for budget in budgets(&text, &pair, random) {
-            let mut store = pair.store.clone();
-            let ran = calls::run_source(&text, &mut store, budget);
-            let got = pair.checked(budget, &format!("seed {seed}"));
-            assert_eq!(got, (ran, store), "seed {seed}: budget {budget}, {text:02x?}");
+    seeds::for_each_text(TEXTS, |text, random| {
+        let Some(pair) = Pair::compiled(text, random) else { return };
+        for budget in budgets(text, &pair, random) {
+            let got = pair.checked(budget);
+            assert_eq!(got, by_rules(text, &pair.store, budget), "budget {budget}");
             tally.add(&pair, got);
         }
-    }
+    });
     let [done, spent, out_of_range, ..] = tally.changed;
-    assert!(done > 200 && spent > 200 && out_of_range > 200, "{tally:?}");
+    if seeds::all() {
+        assert!(done > 200 && spent > 200 && out_of_range > 200, "{tally:?}");
+    }
 }
 
 /// Foreign pairs that agree are not refused. Whatever the end, what the run stored is read back.
 #[test]
 fn foreign_pairs() {
     let mut tally = Tally::default();
-    for seed in 0..PAIRS {
-        let random = &mut Random::new(seed);
+    seeds::for_each(PAIRS, |random| {
         let pair = Pair::foreign(random);
-        let got = pair.checked(random.budget(), &format!("seed {seed}"));
-        tally.add(&pair, got);
+        tally.add(&pair, pair.checked(random.budget()));
+    });
+    if seeds::all() {
+        assert!(tally.changed.iter().all(|&times| times > 50), "{tally:?}");
     }
-    assert!(tally.changed.iter().all(|&times| times > 50), "{tally:?}");
     assert_eq!(tally.refused, [0; 15]);
 }
 
@@ -205,42 +193,42 @@ impl Pair {
     }
 }
 
-/// A pair that agrees is not refused; one that is made to disagree gets 14, and where the table has a name less, 10 at the
-/// first record that names it.
+/// A pair that agrees is not refused; one that is made to disagree gets 14, and where the table has a name less, 10 at
+/// the first record that names it.
 #[test]
 fn pairs_that_disagree() {
     let mut made = [0; 4];
-    for seed in 0..PAIRS / 2 {
-        let (random, name) = (&mut Random::new(seed), format!("seed {seed}"));
+    seeds::for_each(PAIRS / 2, |random| {
         let pair = Pair::agreeing(random);
         let budget = random.budget();
-        assert!(matches!(pair.checked(budget, &name).0, Answer::Gives(_)), "{name}");
+        assert!(pair.checked(budget).0.is_ok());
         for (way, other) in pair.disagreeing(random).into_iter().enumerate() {
             let Some(other) = other else { continue };
-            assert_eq!(other.checked(budget, &name).0, DISAGREE, "{name}: way {way}");
+            assert_eq!(other.checked(budget).0, DISAGREE, "way {way}");
             made[way] += 1;
         }
         let n = pair.names();
         if n > 0 {
             let first = pair.code.chunks(5).position(|record| names_one(record) && record[1] as usize == n).unwrap();
-            let want = Answer::Refused { number: 10, place: first as u32 };
-            assert_eq!(pair.with_entry(n, 0).checked(budget, &name).0, want, "{name}");
+            assert_eq!(pair.with_entry(n, 0).checked(budget).0, Err(Refusal(10, first as u32)));
             made[3] += 1;
         }
+    });
+    if seeds::all() {
+        assert!(made.iter().all(|&times| times > 1000), "{made:?}");
     }
-    assert!(made.iter().all(|&times| times > 1000), "{made:?}");
 }
 
 impl Pair {
-    /// The code of one text beside the table of another, where both are accepted; else any records beside any table of few
-    /// names, or a foreign pair.
+    /// The code of one text beside the table of another, where both are accepted; else any records beside any table of
+    /// few names, or a foreign pair.
     fn any(random: &mut Random) -> Pair {
         let texts = [generator::text(random), generator::text(random)];
         match texts.map(|text| Pair::compiled(&text, random)) {
             [Some(one), Some(other)] if random.one_in(2) => Pair { table: other.table, ..one },
             _ if random.one_in(2) => Pair::foreign(random),
             _ => {
-                let (code, n) = (generator::code(random, 0x50), random.below(6));
+                let (code, n) = (foreign::code(random, 0x50), random.below(6));
                 let (table, store) = (generator::table(random, n), random.cells(64));
                 Pair { code, table, store, depth: random.below(5) as u64 }
             }
@@ -254,15 +242,13 @@ impl Pair {
             self.store = random.cells(length);
         }
         if random.one_in(8) {
-            let at = random.below(64);
-            self.table[at] = random.below(8) as u8;
+            random.change_entry(&mut self.table);
         }
         if random.one_in(20) {
             self.table.pop();
         }
-        if random.one_in(8) && !self.code.is_empty() {
-            let at = random.below(self.code.len());
-            self.code[at] = random.bits() as u8;
+        if random.one_in(8) {
+            random.change_byte(&mut self.code);
         }
         if random.one_in(20) {
             self.code.push(0x52);
@@ -277,19 +263,19 @@ impl Pair {
 #[test]
 fn any_pairs() {
     let mut tally = Tally::default();
-    for seed in 0..PAIRS {
-        let random = &mut Random::new(seed);
+    seeds::for_each(PAIRS, |random| {
         let mut pair = Pair::any(random);
         pair.damage(random);
-        let got = pair.checked(random.budget(), &format!("seed {seed}"));
-        tally.add(&pair, got);
-    }
+        tally.add(&pair, pair.checked(random.budget()));
+    });
     let refused = [9, 8, 12, 10, 14, 11].map(|number: usize| tally.refused[number]);
-    assert!(refused.iter().chain(&tally.ended).all(|&times| times > 50), "{tally:?}");
+    if seeds::all() {
+        assert!(refused.iter().chain(&tally.ended).all(|&times| times > 50), "{tally:?}");
+    }
 }
 
-/// Every code of five records that name one of three addresses or none. As many agree with a table of n names as there are
-/// ways to part the five, and a sixth that stands for none, into n + 1 groups: 1, 31, 90 and 65.
+/// Every code of five records that name one of three addresses or none. As many agree with a table of n names as there
+/// are ways to part the five, and a sixth that stands for none, into n + 1 groups: 1, 31, 90 and 65.
 #[test]
 fn every_small_code() {
     let agreeing = [0, 1, 2, 3].map(|n| {
@@ -297,17 +283,17 @@ fn every_small_code() {
         let agrees = |number: u32| {
             let names = (0..5).map(|i| (number / 4u32.pow(i) % 4) as u8);
             let records = names.zip([0x51, 0x53].into_iter().cycle());
-            let code = records.flat_map(|(name, first)| [if name == 0 { 0x50 } else { first }, name, 0, 0, 0]);
+            let code = records.flat_map(|(name, first)| record(if name == 0 { 0x50 } else { first }, name.into()));
             let pair = Pair { code: code.collect(), table: table.clone(), store: vec![5; 64], depth: 2 };
-            matches!(pair.checked(9, "small codes").0, Answer::Gives(_))
+            pair.checked(9).0.is_ok()
         };
         (0..4u32.pow(5)).filter(|&number| agrees(number)).count()
     });
     assert_eq!(agreeing, [1, 31, 90, 65]);
 }
 
-/// Code as long as it may be, and one record more, beside a table of 64 names: they stand in the last records, in the first
-/// ones, or all over. Records that are never reached count; without the last sight there is one name too few.
+/// Code as long as it may be, and one record more, beside a table of 64 names: they stand in the last records, in the
+/// first ones, or all over. Records that are never reached count; without the last sight there is one name too few.
 #[test]
 fn longest_code() {
     let table = generator::table(&mut Random::new(0), 64);
@@ -323,28 +309,28 @@ fn longest_code() {
                 }
             });
             let [want, disagree] = match records {
-                4097 => [Answer::Refused { number: 9, place: 0 }; 2],
-                _ => [Answer::Gives(Ran { end: End::Done, count: 1, mark: 0 }), DISAGREE],
+                4097 => [Err(Refusal(9, 0)); 2],
+                _ => [Ok(Ran { end: End::Done, count: 1, mark: 0 }), DISAGREE],
             };
-            assert_eq!(pair.checked(9, "longest"), (want, vec![5; 64]));
-            assert_eq!(without.checked(9, "longest"), (disagree, vec![5; 64]));
+            assert_eq!(pair.checked(9), (want, vec![5; 64]));
+            assert_eq!(without.checked(9), (disagree, vec![5; 64]));
         }
     }
 }
 
-/// The largest memory, of D 64 and 64 names: all values are pushed and then stored in the other order, so that address a
-/// gets what 65 - a had; with D 63 there is no room for the last of them.
+/// The largest memory, of D 64 and 64 names: all values are pushed and then stored in the other order, so that address
+/// a gets what 65 - a had; with D 63 there is no room for the last of them.
 #[test]
 fn largest_memory() {
     let random = &mut Random::new(0);
     let (table, store) = (generator::table(random, 64), random.cells(64));
-    let code = [0x51, 0x53].into_iter().flat_map(|first| (1..=64).rev().flat_map(move |name| [first, name, 0, 0, 0]));
+    let code = [0x51, 0x53].into_iter().flat_map(|first| (1..=64).rev().flat_map(move |name| record(first, name)));
     let pair = Pair { code: code.collect(), table, store, depth: 64 };
     let variable = |address: u8| pair.table.iter().position(|&entry| entry == address).unwrap();
     let turned = pair.table.iter().map(|&address| pair.store[variable(65 - address)]).collect();
-    let done = Answer::Gives(Ran { end: End::Done, count: 128, mark: 64 });
-    assert_eq!(pair.checked(128, "largest"), (done, turned));
-    let full = Answer::Gives(Ran { end: End::Full, count: 64, mark: 63 });
+    let done = Ok(Ran { end: End::Done, count: 128, mark: 64 });
+    assert_eq!(pair.checked(128), (done, turned));
+    let full = Ok(Ran { end: End::Full, count: 64, mark: 63 });
     let smaller = Pair { depth: 63, ..pair.clone() };
-    assert_eq!(smaller.checked(128, "largest"), (full, pair.store));
+    assert_eq!(smaller.checked(128), (full, pair.store));
 }

@@ -4,10 +4,11 @@
 use std::fmt::Write;
 use std::path::Path;
 
-use profile_tests::generator::Random;
-use profile_tests::model::{self, End, Refusal, State};
+use profile_tests::answers::{Answer, Calls, Ran, State};
+use profile_tests::both::Compiled;
+use profile_tests::model::{self, Interpreter};
 use profile_tests::programs::{self, Output};
-use profile_tests::vectors;
+use profile_tests::{seeds, vectors};
 
 /// The named variables, each between these.
 fn variables(table: &[u8], store: &[i32], before: &str, after: &str) -> String {
@@ -16,34 +17,25 @@ fn variables(table: &[u8], store: &[i32], before: &str, after: &str) -> String {
 }
 
 /// What is printed of a piece, before the variables.
-fn line(budget: u32, ran: model::Ran, pause: Option<State>) -> String {
-    let end = match ran.end {
-        End::Done => "done",
-        End::Spent => "spent",
-        End::OutOfRange => "range",
-        other => panic!("compiled code ended {other:?}"),
-    };
+fn line(budget: u32, ran: Ran, pause: Option<State>) -> String {
     let at = pause.map(|state| format!(" position {} stack {}", state.position, state.size));
-    format!("piece {budget} {end} {} mark {}{}", ran.count, ran.mark, at.unwrap_or_default())
+    format!("piece {budget} {} {} mark {}{}", model::printed(ran.end), ran.count, ran.mark, at.unwrap_or_default())
 }
 
 /// Prints the pieces of a text, up to the first that is not spent or is refused.
-fn print(text: &[u8], budgets: &[u32], out: &mut String) -> Result<(), Refusal> {
-    let (records, depth, n) = model::read(text)?;
-    let (mut code, mut table, mut store) = (vec![0; 5 * records], vec![0; 64], vec![0; 64]);
-    let mut memory = vec![0; depth + 1 + n];
-    let (depth, n) = (depth as u64, n as u64);
-    model::compile(text, &mut code, &mut table)?;
-    model::load(&table, &store, depth, &mut memory)?;
-    writeln!(out, "records {records} stack {depth} cells {n}").unwrap();
+fn print(text: &[u8], budgets: &[u32], out: &mut String) -> Answer<()> {
+    let compiled = Compiled::of(text)?;
+    let (mut store, mut memory) = (vec![0; 64], compiled.load(&[0; 64]));
+    let Compiled { code, table, depth, cells } = compiled;
+    writeln!(out, "records {} stack {depth} cells {cells}", code.len() / 5).unwrap();
 
     let mut from = None;
     for &budget in budgets {
         let (ran, pause) = match from {
-            None => model::start(&code, &mut memory, depth, n, budget)?,
-            Some(state) => model::go_on(&code, &mut memory, depth, n, state, budget)?,
+            None => Interpreter.start(&code, &mut memory, depth, cells, budget)?,
+            Some(state) => Interpreter.go_on(&code, &mut memory, depth, cells, state, budget)?,
         };
-        model::read_back(&table, &memory, depth, &mut store)?;
+        Interpreter.read_back(&table, &memory, depth, &mut store)?;
         writeln!(out, "{}{}", line(budget, ran, pause), variables(&table, &store, " x", "")).unwrap();
         if pause.is_none() {
             break;
@@ -59,7 +51,7 @@ fn expected(text: &[u8], budgets: &[u32]) -> (i32, String) {
     let mut out = String::new();
     match print(text, budgets, &mut out) {
         Ok(()) => (0, out),
-        Err(Refusal(number, place)) => (1, out + &format!("refused {number} at {place}\n")),
+        Err(refusal) => (1, out + &format!("{refusal}\n")),
     }
 }
 
@@ -95,11 +87,10 @@ fn every_cut_of_the_example() {
 
 #[test]
 fn texts() {
-    for (seed, (path, text, _)) in vectors::texts().into_iter().enumerate() {
-        let random = &mut Random::new(seed as u64);
+    seeds::for_each_of(&vectors::texts(), |(path, text, _), random| {
         let budgets: Vec<u32> = (0..1 + random.below(12)).map(|_| random.below(40) as u32).collect();
-        assert_eq!(host(path.as_ref(), &budgets), expected(&text, &budgets), "{path}: {budgets:?}");
-    }
+        assert_eq!(host(path.as_ref(), &budgets), expected(text, &budgets), "{path}: {budgets:?}");
+    });
 }
 
 /// A total of 4294967295 is taken; with one more the last piece is refused, and what was printed before it stays.

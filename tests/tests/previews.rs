@@ -1,32 +1,36 @@
 //! W3, previews: as the simple interpreter has them, as the runs that they preview, and with what is lent as it was.
 
-use profile_tests::calls::{self, Answer, Ran};
-use profile_tests::generator;
-use profile_tests::{matching, model, seeds};
+use profile_tests::answers::{memory_cells, Answer, Ran};
+use profile_tests::both::{both, Compiled};
+use profile_tests::{foreign, model, seeds};
 
 const SEEDS: u64 = 4000;
 
 /// What the cells lent for a preview's store hold before it.
 const LENT: [i32; 64] = [7; 64];
 
-fn of_source(text: &[u8], store: &[i32], budget: u32) -> (Answer<Ran>, Vec<i32>) {
-    let mut out = LENT.to_vec();
-    (calls::preview_source(text, store, budget, &mut out), out)
+/// An answer, and a store.
+type Left = (Answer<Ran>, Vec<i32>);
+
+fn of_source(text: &[u8], store: &[i32], budget: u32) -> Left {
+    both(&(text, store, budget), |calls| {
+        let (lent, mut out) = (store.to_vec(), LENT.to_vec());
+        let ran = calls.preview_source(text, &lent, budget, &mut out);
+        assert_eq!(lent, store);
+        (ran, out)
+    })
 }
 
 #[test]
 fn of_texts() {
-    seeds::for_each(SEEDS, |text, random, seed| {
+    seeds::for_each_text(SEEDS, |text, random| {
         let length = random.lent_length();
-        let (lent, budget) = (random.cells(length), random.budget());
-        let before = lent.clone();
-        let got = of_source(text, &lent, budget);
-        assert_eq!(got, matching::preview(model::preview_source(text, &lent, budget), &LENT), "{seed}");
-        assert_eq!(lent, before, "{seed}");
+        let _ = of_source(text, &random.cells(length), random.budget());
     });
 }
 
 /// A loaded machine: what a preview is lent.
+#[derive(Clone, Debug, PartialEq)]
 struct Loaded {
     code: Vec<u8>,
     memory: Vec<i32>,
@@ -38,49 +42,49 @@ struct Loaded {
 impl Loaded {
     /// A text compiled, and a store loaded, where the text is accepted.
     fn of(text: &[u8], store: Vec<i32>) -> Option<Loaded> {
-        let (records, depth, n) = model::read(text).ok()?;
-        let (mut code, mut table, mut memory) = (vec![0; 5 * records], vec![0; 64], vec![7; depth + 1 + n]);
-        assert!(matches!(calls::compile(text, &mut code, &mut table), Answer::Gives(_)));
-        assert_eq!(calls::load(&table, &store, depth as u64, &mut memory), Answer::Gives(n));
-        Some(Loaded { code, memory, depth: depth as u64, table, store })
+        let compiled = Compiled::of(text).ok()?;
+        let memory = compiled.load(&store);
+        let Compiled { code, table, depth, .. } = compiled;
+        Some(Loaded { code, memory, depth, table, store })
     }
 
-    fn preview(&self, budget: u32) -> (Answer<Ran>, Vec<i32>) {
-        let (memory, store, mut out) = (self.memory.clone(), self.store.clone(), LENT.to_vec());
-        let Loaded { code, depth, table, .. } = self;
-        let got = calls::preview_machine(code, &self.memory, *depth, table, &self.store, budget, &mut out);
-        assert_eq!((&self.memory, &self.store), (&memory, &store));
-        (got, out)
+    fn preview(&self, budget: u32) -> Left {
+        both(&(budget, self), |calls| {
+            let (lent, mut out) = (self.clone(), LENT.to_vec());
+            let Loaded { code, memory, depth, table, store } = &lent;
+            let ran = calls.preview_machine(code, memory, *depth, table, store, budget, &mut out);
+            assert_eq!(lent, *self);
+            (ran, out)
+        })
     }
 
     /// The same by the calls that it previews, made on copies.
-    fn run(&self, budget: u32) -> (Answer<Ran>, Vec<i32>) {
-        let (mut memory, mut store) = (self.memory.clone(), self.store.clone());
-        let n = self.table.iter().filter(|&&entry| entry != 0).count();
-        let ran = calls::run_machine(&self.code, &mut memory, self.depth, n as u64, budget);
-        assert_eq!(calls::read_back(&self.table, &memory, self.depth, &mut store), Answer::Gives(n));
-        (ran, store)
-    }
-
-    fn by_interpreter(&self, budget: u32) -> (Answer<Ran>, Vec<i32>) {
-        let Loaded { code, memory, depth, table, store } = self;
-        matching::preview(model::preview_machine(code, memory, *depth, table, store, budget), &LENT)
+    fn run(&self, budget: u32) -> Left {
+        both(&(budget, self), |calls| {
+            let Loaded { code, mut memory, depth, table, mut store } = self.clone();
+            let n = model::named(&table);
+            let ran = calls.run_machine(&code, &mut memory, depth, n as u64, budget);
+            assert_eq!(calls.read_back(&table, &memory, depth, &mut store), Ok(n));
+            (ran, store)
+        })
     }
 }
 
 /// At rising budgets, each after the previews before it: both previews, the run of the text and that of the machine.
 #[test]
 fn of_loaded_machines() {
-    seeds::for_each(SEEDS, |text, random, seed| {
+    seeds::for_each_text(SEEDS, |text, random| {
         let start = random.cells(64);
         let Some(machine) = Loaded::of(text, start.clone()) else { return };
         for budget in (0..8).chain([random.budget()]) {
             let got = machine.preview(budget);
-            assert_eq!(got, of_source(text, &start, budget), "{seed}");
-            let mut run = start.clone();
-            assert_eq!(got.0, calls::run_source(text, &mut run, budget), "{seed}");
-            assert_eq!(got.1, run, "{seed}");
-            assert_eq!(got, machine.run(budget), "{seed}");
+            assert_eq!(got, of_source(text, &start, budget));
+            let run = both(&(text, budget), |calls| {
+                let mut store = start.clone();
+                (calls.run_source(text, &mut store, budget), store)
+            });
+            assert_eq!(got, run);
+            assert_eq!(got, machine.run(budget));
         }
     });
 }
@@ -88,16 +92,15 @@ fn of_loaded_machines() {
 /// Code, table, memory and store that need not belong together, and may have any length.
 #[test]
 fn of_foreign_machines() {
-    seeds::for_each(SEEDS, |text, random, seed| {
+    seeds::for_each_text(SEEDS, |text, random| {
         let mut machine = match Loaded::of(text, random.cells(64)) {
             Some(machine) if random.one_in(2) => machine,
             _ => {
                 let n = random.below(6);
                 let table = (0..64).map(|v| if v < n { 1 + v as u8 } else { 0 }).collect();
-                let depth = random.below(5);
-                let memory = random.cells(depth + 1 + n);
-                let code = generator::code(random, 0x50);
-                Loaded { code, memory, depth: depth as u64, table, store: vec![] }
+                let depth = random.below(5) as u64;
+                let memory = random.cells(memory_cells(depth, n as u64));
+                Loaded { code: foreign::code(random, 0x50), memory, depth, table, store: vec![] }
             }
         };
         let length = random.lent_length();
@@ -107,15 +110,13 @@ fn of_foreign_machines() {
             machine.memory = random.cells(length);
         }
         if random.one_in(6) {
-            let at = random.below(64);
-            machine.table[at] = random.below(8) as u8;
+            random.change_entry(&mut machine.table);
         }
         if random.one_in(12) {
             machine.table.pop();
         }
-        if random.one_in(6) && !machine.code.is_empty() {
-            let at = random.below(machine.code.len());
-            machine.code[at] = random.bits() as u8;
+        if random.one_in(6) {
+            random.change_byte(&mut machine.code);
         }
         if random.one_in(12) {
             machine.code.push(0x52);
@@ -125,9 +126,8 @@ fn of_foreign_machines() {
         }
         let budget = random.budget();
         let got = machine.preview(budget);
-        assert_eq!(got, machine.by_interpreter(budget), "{seed}");
-        if let (Answer::Gives(_), _) = got {
-            assert_eq!(got, machine.run(budget), "{seed}");
+        if got.0.is_ok() {
+            assert_eq!(got, machine.run(budget));
         }
     });
 }

@@ -1,24 +1,9 @@
-//! The printing program and the simple interpreter print the same, byte for byte.
-//!
-//! A failure names its seed. `PROFILE_SEED=N cargo test --test printing -- --nocapture` reruns that one and shows its text.
+//! The printing program and the simple interpreter print the same, byte for byte; the vectors' texts are in vectors.rs.
 
 use std::path::Path;
 
-use profile_tests::programs::{self, Output};
-use profile_tests::{model, seeds, vectors};
-
-fn show(text: &[u8]) -> String {
-    let Output { status, out, error } = programs::run("bin/show", &[], text);
-    assert_eq!((status, error.as_str()), (0, ""));
-    out
-}
-
-#[test]
-fn texts() {
-    for (path, text, want) in vectors::texts() {
-        assert_eq!(show(&text), want, "{path}");
-    }
-}
+use profile_tests::programs::{self, show, Output};
+use profile_tests::{model, seeds};
 
 #[test]
 fn examples() {
@@ -37,7 +22,7 @@ fn examples() {
 
 #[test]
 fn random_texts() {
-    seeds::for_each(4000, |text, _, seed| assert_eq!(show(text), model::show(text), "{seed}"));
+    seeds::for_each_text(4000, |text, _| assert_eq!(show(text), model::show(text)));
 }
 
 #[test]

@@ -1,159 +1,140 @@
-//! Random texts: the proved calls and the simple interpreter answer alike, on every lent buffer.
-//!
-//! A failure names its seed. `PROFILE_SEED=N cargo test --test random -- --nocapture` reruns that one and shows its text.
+//! Random texts, codes and tables: the libraries and the simple interpreter answer alike, on every lent buffer.
 
-use profile_tests::generator::{self, Random};
-use profile_tests::{calls, matching, model, seeds};
+use profile_tests::answers::{memory_cells, Calls};
+use profile_tests::both::{alike, both, Compiled};
+use profile_tests::calls::Libraries;
+use profile_tests::generator::Random;
+use profile_tests::{foreign, model, seeds};
 
 const SEEDS: u64 = 4000;
 
 #[test]
 fn read() {
-    seeds::for_each(SEEDS, |text, _, seed| {
-        assert_eq!(calls::read(text), matching::sizes(model::read(text)), "{seed}");
+    seeds::for_each_text(SEEDS, |text, _| {
+        alike(&text, |calls| calls.read(text));
     });
 }
 
 #[test]
 fn run_source() {
-    seeds::for_each(SEEDS, |text, random, seed| {
+    seeds::for_each_text(SEEDS, |text, random| {
         let length = random.lent_length();
-        let start = random.cells(length);
-        let budget = random.budget();
-        let (mut proved, mut simple) = (start.clone(), start);
-        let got = calls::run_source(text, &mut proved, budget);
-        assert_eq!(got, matching::ran(model::run_source(text, &mut simple, budget)), "{seed}");
-        assert_eq!(proved, simple, "{seed}");
+        let (start, budget) = (random.cells(length), random.budget());
+        alike(&(text, &start, budget), |calls| {
+            let mut store = start.clone();
+            (calls.run_source(text, &mut store, budget), store)
+        });
     });
 }
 
 #[test]
 fn assemble_and_compile() {
-    seeds::for_each(SEEDS, |text, random, seed| {
-        let records = model::read(text).map_or(10, |sizes| sizes.0);
-        let length = if random.one_in(8) { random.below(5 * records + 5) } else { 5 * records + random.below(9) };
+    seeds::for_each_text(SEEDS, |text, random| {
+        let room = both(&text, |calls| calls.read(text)).map_or(50, |sizes| sizes.bytes());
+        let length = if random.one_in(8) { random.below(room + 5) } else { room + random.below(9) };
         let start = random.bytes(length);
-        let (mut proved, mut simple) = (start.clone(), start.clone());
-        let got = calls::assemble(text, &mut proved);
-        assert_eq!(got, matching::sizes(model::assemble(text, &mut simple)), "{seed}");
-        assert_eq!(proved, simple, "{seed}");
+        alike(&(text, length), |calls| {
+            let mut out = start.clone();
+            (calls.assemble(text, &mut out), out)
+        });
 
         let length = random.lent_length();
         let lent = random.bytes(length);
-        let (mut code, mut table) = (start.clone(), lent.clone());
-        let (mut simple_code, mut simple_table) = (start, lent);
-        let got = calls::compile(text, &mut code, &mut table);
-        let want = matching::sizes(model::compile(text, &mut simple_code, &mut simple_table));
-        assert_eq!(got, want, "{seed}");
-        assert_eq!((code, table), (simple_code, simple_table), "{seed}");
+        alike(&(text, start.len(), length), |calls| {
+            let (mut code, mut table) = (start.clone(), lent.clone());
+            (calls.compile(text, &mut code, &mut table), code, table)
+        });
     });
-}
-
-/// Compiled code, table and sizes of a text, where it is accepted.
-fn compiled(text: &[u8]) -> Option<(Vec<u8>, Vec<u8>, model::Sizes)> {
-    let sizes = model::read(text).ok()?;
-    let (mut code, mut table) = (vec![0; 5 * sizes.0], vec![0; 64]);
-    model::compile(text, &mut code, &mut table).unwrap();
-    Some((code, table, sizes))
 }
 
 #[test]
 fn the_four_calls_in_a_row() {
-    seeds::for_each(SEEDS, |text, random, seed| {
-        let Some((_, _, (records, depth, n))) = compiled(text) else { return };
+    seeds::for_each_text(SEEDS, |text, random| {
+        let Ok(Compiled { code, depth, cells, .. }) = Compiled::of(text) else { return };
         let start = random.cells(64);
         let budget = random.budget();
-        let (mut code, mut table) = (random.bytes(5 * records), random.bytes(64));
-        let mut memory = random.cells(depth + 1 + n);
-        let mut store = start.clone();
-        assert!(matches!(calls::compile(text, &mut code, &mut table), calls::Answer::Gives(_)), "{seed}");
-        assert_eq!(calls::load(&table, &store, depth as u64, &mut memory), calls::Answer::Gives(n), "{seed}");
-        let ran = calls::run_machine(&code, &mut memory, depth as u64, n as u64, budget);
-        assert_eq!(calls::read_back(&table, &memory, depth as u64, &mut store), calls::Answer::Gives(n), "{seed}");
-        let mut by_rules = start;
-        assert_eq!(ran, calls::run_source(text, &mut by_rules, budget), "{seed}");
-        assert_eq!(store, by_rules, "{seed}");
+        let (mut code, mut table) = (random.bytes(code.len()), random.bytes(64));
+        let (mut memory, n) = (random.cells(memory_cells(depth, cells)), cells as usize);
+        let (mut store, mut by_rules) = (start.clone(), start);
+        assert!(Libraries.compile(text, &mut code, &mut table).is_ok());
+        assert_eq!(Libraries.load(&table, &store, depth, &mut memory), Ok(n));
+        let ran = Libraries.run_machine(&code, &mut memory, depth, cells, budget);
+        assert_eq!(Libraries.read_back(&table, &memory, depth, &mut store), Ok(n));
+        assert_eq!(ran, Libraries.run_source(text, &mut by_rules, budget));
+        assert_eq!(store, by_rules);
     });
 }
 
 /// Machine code of our compiler, as it is or damaged, or anything.
-fn foreign_code(text: &[u8], random: &mut Random) -> Vec<u8> {
-    match (compiled(text), random.below(3)) {
-        (Some((code, _, _)), 0) => code,
-        (Some((mut code, _, _)), 1) if !code.is_empty() => {
+fn machine_code(text: &[u8], random: &mut Random) -> Vec<u8> {
+    match (Compiled::of(text), random.below(3)) {
+        (Ok(Compiled { code, .. }), 0) => code,
+        (Ok(Compiled { mut code, .. }), 1) if !code.is_empty() => {
             for _ in 0..1 + random.below(3) {
                 let at = random.below(code.len());
-                code[at] = [0, 1, 0x50, 0x51, 0x52, 0x53, 0x54, 0x55, 0x56, 0xff, random.bits() as u8][random.below(11)];
+                code[at] =
+                    [0, 1, 0x50, 0x51, 0x52, 0x53, 0x54, 0x55, 0x56, 0xff, random.bits() as u8][random.below(11)];
             }
             code
         }
-        _ => generator::code(random, 0x50),
+        _ => foreign::code(random, 0x50),
     }
 }
 
 #[test]
 fn foreign_machine_code() {
-    seeds::for_each(SEEDS, |text, random, seed| {
-        let code = foreign_code(text, random);
+    seeds::for_each_text(SEEDS, |text, random| {
+        let code = machine_code(text, random);
         let (depth, n) = (random.below(5) as u64, random.below(6) as u64);
-        let length = if random.one_in(20) { random.below(12) } else { (depth + 1 + n) as usize };
-        let start = random.cells(length);
-        let budget = random.budget();
-        let (mut proved, mut simple) = (start.clone(), start);
-        let got = calls::start(&code, &mut proved, depth, n, budget);
-        assert_eq!(got, matching::piece(model::start(&code, &mut simple, depth, n, budget)), "{seed}");
-        assert_eq!(proved, simple, "{seed}");
+        let length = if random.one_in(20) { random.below(12) } else { memory_cells(depth, n) };
+        let (start, budget) = (random.cells(length), random.budget());
+        alike(&(&code, &start, depth, n, budget), |calls| {
+            let mut memory = start.clone();
+            (calls.start(&code, &mut memory, depth, n, budget), memory)
+        });
     });
 }
 
 #[test]
 fn foreign_assembly() {
-    seeds::for_each(SEEDS, |_, random, seed| {
-        let code = generator::code(random, 0x40);
+    seeds::for_each_text(SEEDS, |_, random| {
+        let code = foreign::code(random, 0x40);
         let (depth, cells) = (random.below(6), if random.one_in(30) { 63 } else { 64 });
         let (start, start_stack) = (random.cells(cells), random.cells(depth));
         let budget = random.budget();
-        let (mut store, mut stack) = (start.clone(), start_stack.clone());
-        let (mut simple_store, mut simple_stack) = (start, start_stack);
-        let got = calls::run_assembly(&code, &mut store, &mut stack, budget);
-        let want = model::run_assembly(&code, &mut simple_store, &mut simple_stack, budget);
-        assert_eq!(got, matching::ran(want), "{seed}");
-        assert_eq!((store, stack), (simple_store, simple_stack), "{seed}");
+        alike(&(&code, &start, &start_stack, budget), |calls| {
+            let (mut store, mut stack) = (start.clone(), start_stack.clone());
+            (calls.run_assembly(&code, &mut store, &mut stack, budget), store, stack)
+        });
     });
 }
 
 #[test]
 fn tables_and_going_back() {
-    seeds::for_each(SEEDS, |text, random, seed| {
-        let (mut code, mut table) = compiled(text).map_or((vec![], vec![0; 64]), |(code, table, _)| (code, table));
+    seeds::for_each_text(SEEDS, |text, random| {
+        let (mut code, mut table) =
+            Compiled::of(text).map_or((vec![], vec![0; 64]), |Compiled { code, table, .. }| (code, table));
         if random.one_in(3) {
-            let at = random.below(64);
-            table[at] = random.below(8) as u8;
+            random.change_entry(&mut table);
         }
-        if random.one_in(6) && !code.is_empty() {
-            let at = random.below(code.len());
-            code[at] = random.bits() as u8;
+        if random.one_in(6) {
+            random.change_byte(&mut code);
         }
         let room = if random.one_in(8) { random.below(code.len() + 1) } else { code.len() + random.below(7) };
         let start = random.bytes(room);
-        let (mut proved, mut simple) = (start.clone(), start);
-        let got = calls::go_back(&code, &table, &mut proved);
-        assert_eq!(got, matching::count(model::go_back(&code, &table, &mut simple)), "{seed}");
-        assert_eq!(proved, simple, "{seed}");
+        alike(&(&code, &table, room), |calls| {
+            let mut out = start.clone();
+            (calls.go_back(&code, &table, &mut out), out)
+        });
 
-        let n = table.iter().filter(|&&entry| entry != 0).count();
-        let depth = random.below(4);
-        let length = if random.one_in(10) { random.below(9) } else { depth + 1 + n };
+        let (n, depth) = (model::named(&table), random.below(4) as u64);
+        let length = if random.one_in(10) { random.below(9) } else { memory_cells(depth, n as u64) };
         let (store, start) = (random.cells(64), random.cells(length));
-        let (mut proved, mut simple) = (start.clone(), start);
-        let got = calls::load(&table, &store, depth as u64, &mut proved);
-        assert_eq!(got, matching::count(model::load(&table, &store, depth as u64, &mut simple)), "{seed}");
-        assert_eq!(proved, simple, "{seed}");
-
-        let (mut back, mut simple_back) = (store.clone(), store);
-        let got = calls::read_back(&table, &proved, depth as u64, &mut back);
-        let want = model::read_back(&table, &simple, depth as u64, &mut simple_back);
-        assert_eq!(got, matching::count(want), "{seed}");
-        assert_eq!(back, simple_back, "{seed}");
+        alike(&(&table, &store, depth, length), |calls| {
+            let (mut memory, mut back) = (start.clone(), store.clone());
+            let loaded = calls.load(&table, &store, depth, &mut memory);
+            let read = calls.read_back(&table, &memory, depth, &mut back);
+            (loaded, memory, read, back)
+        });
     });
 }

@@ -1,8 +1,7 @@
-//! Constants in either spelling (document 02, W1): a text answers every call that takes a text as its other spellings do.
-//!
-//! A failure names its seed. `PROFILE_SEED=N cargo test --test spellings -- --nocapture` reruns that one and shows its text.
+//! W1, constants in either spelling: a text answers every call that takes a text as its other spellings do.
 
-use profile_tests::calls::{self, Answer, End, Ran};
+use profile_tests::answers::{End, Ran, Sizes};
+use profile_tests::both::both;
 use profile_tests::model::{self, Command, Condition, Expression};
 use profile_tests::seeds;
 
@@ -39,28 +38,27 @@ fn command(part: &Command, short: Short) -> Vec<u8> {
 
 /// What the calls that take a text give and leave.
 fn answers(text: &[u8], start: &[i32], budget: u32) -> impl PartialEq + std::fmt::Debug {
-    let (mut out, mut code, mut table, mut store) = (vec![7; 20480], vec![7; 20480], [7; 64], start.to_vec());
-    let sizes = calls::read(text);
-    let assembled = calls::assemble(text, &mut out);
-    let compiled = calls::compile(text, &mut code, &mut table);
-    let ran = calls::run_source(text, &mut store, budget);
-    (sizes, assembled, out, compiled, (code, table), ran, store)
+    both(&(text, start, budget), |calls| {
+        let (mut out, mut code, mut table, mut store) = (vec![7; 20480], vec![7; 20480], [7; 64], start.to_vec());
+        let sizes = calls.read(text);
+        let assembled = calls.assemble(text, &mut out);
+        let compiled = calls.compile(text, &mut code, &mut table);
+        let ran = calls.run_source(text, &mut store, budget);
+        (sizes, assembled, out, compiled, (code, table), ran, store)
+    })
 }
 
 #[test]
 fn random_texts() {
-    seeds::for_each(2000, |text, random, seed| {
+    seeds::for_each_text(2000, |text, random| {
         let Ok(tree) = model::read_text(text) else { return };
         let (start, budget) = (random.cells(64), random.budget());
         let want = answers(text, &start, budget);
-        let [full, some, shortest] = [
-            command(&tree, &mut || false),
-            command(&tree, &mut || random.one_in(2)),
-            command(&tree, &mut || true),
-        ];
-        assert!(shortest.len() <= some.len() && some.len() <= full.len(), "{seed}");
+        let [full, some, shortest] =
+            [command(&tree, &mut || false), command(&tree, &mut || random.one_in(2)), command(&tree, &mut || true)];
+        assert!(shortest.len() <= some.len() && some.len() <= full.len());
         for other in [full, some, shortest].iter().filter(|other| other.len() <= 4096) {
-            assert_eq!(answers(other, &start, budget), want, "{seed}");
+            assert_eq!(answers(other, &start, budget), want);
         }
     });
 }
@@ -71,12 +69,14 @@ fn each_value() {
     for z in -128..=127i32 {
         let full = [vec![0x01, 0x00, 0x10], z.to_le_bytes().to_vec()].concat();
         for text in [full, vec![0x01, 0x00, 0x13, z as u8]] {
-            let (mut out, mut store) = ([7; 10], [7; 64]);
-            let sizes = calls::Sizes { records: 2, depth: 1, cells: 1 };
-            assert_eq!(calls::assemble(&text, &mut out), Answer::Gives(sizes), "{z}");
+            let (sizes, out, ran, store) = both(&text, |calls| {
+                let (mut out, mut store) = ([7; 10], [7; 64]);
+                let sizes = calls.assemble(&text, &mut out);
+                (sizes, out, calls.run_source(&text, &mut store, 2), store)
+            });
+            assert_eq!(sizes, Ok(Sizes { records: 2, depth: 1, cells: 1 }), "{z}");
             assert_eq!(out[..6], [&[0x40], &z.to_le_bytes()[..], &[0x43]].concat(), "{z}");
-            let ran = Ran { end: End::Done, count: 2, mark: 1 };
-            assert_eq!(calls::run_source(&text, &mut store, 2), Answer::Gives(ran), "{z}");
+            assert_eq!(ran, Ok(Ran { end: End::Done, count: 2, mark: 1 }), "{z}");
             assert_eq!((store[0], &store[1..]), (z, &[7; 63][..]), "{z}");
         }
     }

@@ -1,35 +1,31 @@
-//! W4, the test of a table: every entry at every place of some tables, and random tables, beside the simple interpreter.
+//! W4, the test of a table: every entry at every place of some tables, and random tables, beside the simple
+//! interpreter.
 
-use profile_tests::calls::{self, Answer};
+use profile_tests::answers::{Answer, Refusal};
+use profile_tests::both::both;
 use profile_tests::generator::{self, Random};
-use profile_tests::{matching, model};
+use profile_tests::{model, seeds};
 
 const TABLES: u64 = 4000;
 
-/// What the calls that take a table find in it: loading and reading back with a memory that fits the nonzero entries, and
-/// going back from no records.
-fn found(table: &[u8], seed: &str) -> Answer<usize> {
-    let n = table.iter().filter(|&&entry| entry != 0).count();
-    let (store, memory) = ([5; 64], vec![7; 2 + n]);
-    let (mut loaded, mut simple) = (memory.clone(), memory.clone());
-    let got = calls::load(table, &store, 1, &mut loaded);
-    assert_eq!(got, matching::count(model::load(table, &store, 1, &mut simple)), "{seed}: {table:?}");
-    assert_eq!(loaded, simple, "{seed}: {table:?}");
-
-    let (mut back, mut simple) = (store, store);
-    let read = calls::read_back(table, &memory, 1, &mut back);
-    assert_eq!(read, matching::count(model::read_back(table, &memory, 1, &mut simple)), "{seed}: {table:?}");
-    assert_eq!((read, back), (got, simple), "{seed}: {table:?}");
-
-    let gone = calls::go_back(&[], table, &mut []);
-    assert_eq!(gone, matching::count(model::go_back(&[], table, &mut [])), "{seed}: {table:?}");
-    got
+/// What the calls that take a table find in it: loading and reading back with a memory that fits the nonzero entries,
+/// and going back from no records.
+fn found(table: &[u8]) -> Answer<usize> {
+    let (store, memory) = ([5; 64], vec![7; 2 + model::named(table)]);
+    let (load, read, ..) = both(&table, |calls| {
+        let (mut loaded, mut back) = (memory.clone(), store);
+        let load = calls.load(table, &store, 1, &mut loaded);
+        let read = calls.read_back(table, &memory, 1, &mut back);
+        (load, read, loaded, back, calls.go_back(&[], table, &mut []))
+    });
+    assert_eq!(load, read, "{table:?}");
+    load
 }
 
-const NO_TABLE: Answer<usize> = Answer::Refused { number: 12, place: 0 };
+const NO_TABLE: Answer<usize> = Err(Refusal(12, 0));
 
-/// Of all bytes at a place, that of the table passes, and another may only where it makes it a table of one name more or
-/// less.
+/// Of all bytes at a place, that of the table passes, and another may only where it makes it a table of one name more
+/// or less.
 #[test]
 fn every_entry_at_every_place() {
     for n in [0, 1, 7, 63, 64] {
@@ -39,7 +35,7 @@ fn every_entry_at_every_place() {
                 .filter(|&entry| {
                     let mut table = table.clone();
                     table[v] = entry as u8;
-                    found(&table, "every entry") != NO_TABLE
+                    found(&table) != NO_TABLE
                 })
                 .collect();
             let want = match table[v] as usize {
@@ -56,11 +52,10 @@ fn every_entry_at_every_place() {
 #[test]
 fn random_tables() {
     let mut passed = 0;
-    for seed in 0..TABLES {
-        let random = &mut Random::new(seed);
+    seeds::for_each(TABLES, |random| {
         let n = random.below(65);
         let mut table = generator::table(random, n);
-        assert_eq!(found(&table, &format!("seed {seed}")), Answer::Gives(n), "seed {seed}");
+        assert_eq!(found(&table), Ok(n));
         for _ in 0..random.below(3) {
             let v = random.below(64);
             table[v] = match random.below(3) {
@@ -69,7 +64,9 @@ fn random_tables() {
                 _ => random.below(66) as u8,
             };
         }
-        passed += u64::from(found(&table, &format!("seed {seed}, changed")) != NO_TABLE);
+        passed += u64::from(found(&table) != NO_TABLE);
+    });
+    if seeds::all() {
+        assert!((TABLES / 4..TABLES * 3 / 4).contains(&passed), "{passed} of the changed tables pass");
     }
-    assert!((TABLES / 4..TABLES * 3 / 4).contains(&passed), "{passed} of the changed tables pass");
 }
