@@ -1,5 +1,6 @@
--- What is printed for B, C and G and for a refused text, by computation; for J, whose run is spent at every budget, by
--- computing all but the run (Cases: PrintedB, PrintedC, PrintedG, PrintedJ, PrintedRefusal).
+-- Quoted lines as bytes, and what is printed for B, C and G and for a refused text, by computation; for J, whose run is
+-- spent at every budget, by computing all but the run (Cases: LinesAsBytes, PrintedB, PrintedC, PrintedG, PrintedJ,
+-- PrintedRefusal).
 use mathlib.Core.Path.{refl}
 use Rattle.base.specs.Acts.{then′, give}
 use Rattle.base.specs.Answers.{and-then, settle}
@@ -23,7 +24,10 @@ use Rattle.compile.specs.Table.{member, once, mentions, addr-of, entries}
 use Rattle.print.specs.Numbers.{decimal-by, signed}
 use Rattle.print.specs.Printing.{first-line, name-text, operand-text, record-lines, end-text, run-line}
 use Rattle.print.specs.Printing.{value-line, value-lines, run-lines, refusal-line, answer-lines}
-use Rattle.print.specs.Cases.{PrintedB, PrintedC, PrintedG, PrintedJ, PrintedRefusal}
+use Rattle.print.specs.Cases.{LinesAsBytes, PrintedB, PrintedC, PrintedG, PrintedJ, PrintedRefusal}
+
+pub lines-as-bytes : LinesAsBytes
+lines-as-bytes = refl
 
 pub printed-B : PrintedB
 unfolding B·text zeros then′ give and-then settle number-of number-at limited sum32

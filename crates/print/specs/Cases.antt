@@ -1,92 +1,64 @@
--- What is printed for B, whole (document 01, "For B it prints, whole"), for C, G and J, and for the example of
--- refusal 3.
+-- Quoted lines as bytes; and what is printed for B, whole (document 01, "For B it prints, whole"), for C, G and J, and
+-- for the example of refusal 3.
 use mathlib.Core.Path.{_≡_}
-use mathlib.Core.List.{List, [], _∷_}
+use mathlib.Core.List.{[], _∷_}
 use Rattle.text.specs.Cases.{B·text, C·text, G·text, J·text, x64·text}
+use Rattle.print.specs.Ascii.{lines}
 use Rattle.print.specs.Printing.{shown}
 
+-- 'M' is 77, a blank 32, '8' 56, and 10 ends a line.
+abbrev pub LinesAsBytes : Type 0
+LinesAsBytes = lines ("M 8" ∷ "8" ∷ []) ≡ 77 ∷ 32 ∷ 56 ∷ 10 ∷ 56 ∷ 10 ∷ []
+
 abbrev pub PrintedB : Type 0
-PrintedB = shown B·text ≡
-    -- records 4 stack 2 cells 2
-    114 ∷ 101 ∷ 99 ∷ 111 ∷ 114 ∷ 100 ∷ 115 ∷ 32 ∷ 52 ∷ 32 ∷ 115 ∷ 116 ∷ 97 ∷ 99 ∷ 107 ∷ 32 ∷ 50 ∷ 32 ∷ 99 ∷ 101 ∷ 108 ∷ 108 ∷ 115 ∷ 32 ∷ 50 ∷ 10 ∷
-    -- 0 LOAD 1 | MLOAD 2
-    48 ∷ 32 ∷ 76 ∷ 79 ∷ 65 ∷ 68 ∷ 32 ∷ 49 ∷ 32 ∷ 124 ∷ 32 ∷ 77 ∷ 76 ∷ 79 ∷ 65 ∷ 68 ∷ 32 ∷ 50 ∷ 10 ∷
-    -- 1 LOADI 5 | MLOADI 5
-    49 ∷ 32 ∷ 76 ∷ 79 ∷ 65 ∷ 68 ∷ 73 ∷ 32 ∷ 53 ∷ 32 ∷ 124 ∷ 32 ∷ 77 ∷ 76 ∷ 79 ∷ 65 ∷ 68 ∷ 73 ∷ 32 ∷ 53 ∷ 10 ∷
-    -- 2 ADD | MADD
-    50 ∷ 32 ∷ 65 ∷ 68 ∷ 68 ∷ 32 ∷ 124 ∷ 32 ∷ 77 ∷ 65 ∷ 68 ∷ 68 ∷ 10 ∷
-    -- 3 STORE 0 | MSTORE 1
-    51 ∷ 32 ∷ 83 ∷ 84 ∷ 79 ∷ 82 ∷ 69 ∷ 32 ∷ 48 ∷ 32 ∷ 124 ∷ 32 ∷ 77 ∷ 83 ∷ 84 ∷ 79 ∷ 82 ∷ 69 ∷ 32 ∷ 49 ∷ 10 ∷
-    -- run done 4
-    114 ∷ 117 ∷ 110 ∷ 32 ∷ 100 ∷ 111 ∷ 110 ∷ 101 ∷ 32 ∷ 52 ∷ 10 ∷
-    -- 0 5
-    48 ∷ 32 ∷ 53 ∷ 10 ∷
-    -- 1 0
-    49 ∷ 32 ∷ 48 ∷ 10 ∷
-    []
+PrintedB = shown B·text ≡ lines (
+    "records 4 stack 2 cells 2"
+    ∷ "0 LOAD 1 | MLOAD 2"
+    ∷ "1 LOADI 5 | MLOADI 5"
+    ∷ "2 ADD | MADD"
+    ∷ "3 STORE 0 | MSTORE 1"
+    ∷ "run done 4"
+    ∷ "0 5"
+    ∷ "1 0"
+    ∷ [])
 
 -- C, whole: a jump forward and a jump back, and 27 ticks.
 abbrev pub PrintedC : Type 0
-PrintedC = shown C·text ≡
-    -- records 8 stack 2 cells 1
-    114 ∷ 101 ∷ 99 ∷ 111 ∷ 114 ∷ 100 ∷ 115 ∷ 32 ∷ 56 ∷ 32 ∷ 115 ∷ 116 ∷ 97 ∷ 99 ∷ 107 ∷ 32 ∷ 50 ∷ 32 ∷ 99 ∷ 101 ∷ 108 ∷ 108 ∷ 115 ∷ 32 ∷ 49 ∷ 10 ∷
-    -- 0 LOAD 0 | MLOAD 1
-    48 ∷ 32 ∷ 76 ∷ 79 ∷ 65 ∷ 68 ∷ 32 ∷ 48 ∷ 32 ∷ 124 ∷ 32 ∷ 77 ∷ 76 ∷ 79 ∷ 65 ∷ 68 ∷ 32 ∷ 49 ∷ 10 ∷
-    -- 1 LOADI 3 | MLOADI 3
-    49 ∷ 32 ∷ 76 ∷ 79 ∷ 65 ∷ 68 ∷ 73 ∷ 32 ∷ 51 ∷ 32 ∷ 124 ∷ 32 ∷ 77 ∷ 76 ∷ 79 ∷ 65 ∷ 68 ∷ 73 ∷ 32 ∷ 51 ∷ 10 ∷
-    -- 2 JMPGE 5 | MJMPGE 5
-    50 ∷ 32 ∷ 74 ∷ 77 ∷ 80 ∷ 71 ∷ 69 ∷ 32 ∷ 53 ∷ 32 ∷ 124 ∷ 32 ∷ 77 ∷ 74 ∷ 77 ∷ 80 ∷ 71 ∷ 69 ∷ 32 ∷ 53 ∷ 10 ∷
-    -- 3 LOAD 0 | MLOAD 1
-    51 ∷ 32 ∷ 76 ∷ 79 ∷ 65 ∷ 68 ∷ 32 ∷ 48 ∷ 32 ∷ 124 ∷ 32 ∷ 77 ∷ 76 ∷ 79 ∷ 65 ∷ 68 ∷ 32 ∷ 49 ∷ 10 ∷
-    -- 4 LOADI 1 | MLOADI 1
-    52 ∷ 32 ∷ 76 ∷ 79 ∷ 65 ∷ 68 ∷ 73 ∷ 32 ∷ 49 ∷ 32 ∷ 124 ∷ 32 ∷ 77 ∷ 76 ∷ 79 ∷ 65 ∷ 68 ∷ 73 ∷ 32 ∷ 49 ∷ 10 ∷
-    -- 5 ADD | MADD
-    53 ∷ 32 ∷ 65 ∷ 68 ∷ 68 ∷ 32 ∷ 124 ∷ 32 ∷ 77 ∷ 65 ∷ 68 ∷ 68 ∷ 10 ∷
-    -- 6 STORE 0 | MSTORE 1
-    54 ∷ 32 ∷ 83 ∷ 84 ∷ 79 ∷ 82 ∷ 69 ∷ 32 ∷ 48 ∷ 32 ∷ 124 ∷ 32 ∷ 77 ∷ 83 ∷ 84 ∷ 79 ∷ 82 ∷ 69 ∷ 32 ∷ 49 ∷ 10 ∷
-    -- 7 JMP -8 | MJMP -8
-    55 ∷ 32 ∷ 74 ∷ 77 ∷ 80 ∷ 32 ∷ 45 ∷ 56 ∷ 32 ∷ 124 ∷ 32 ∷ 77 ∷ 74 ∷ 77 ∷ 80 ∷ 32 ∷ 45 ∷ 56 ∷ 10 ∷
-    -- run done 27
-    114 ∷ 117 ∷ 110 ∷ 32 ∷ 100 ∷ 111 ∷ 110 ∷ 101 ∷ 32 ∷ 50 ∷ 55 ∷ 10 ∷
-    -- 0 3
-    48 ∷ 32 ∷ 51 ∷ 10 ∷
-    []
+PrintedC = shown C·text ≡ lines (
+    "records 8 stack 2 cells 1"
+    ∷ "0 LOAD 0 | MLOAD 1"
+    ∷ "1 LOADI 3 | MLOADI 3"
+    ∷ "2 JMPGE 5 | MJMPGE 5"
+    ∷ "3 LOAD 0 | MLOAD 1"
+    ∷ "4 LOADI 1 | MLOADI 1"
+    ∷ "5 ADD | MADD"
+    ∷ "6 STORE 0 | MSTORE 1"
+    ∷ "7 JMP -8 | MJMP -8"
+    ∷ "run done 27"
+    ∷ "0 3"
+    ∷ [])
 
 -- G, whole: out of range at 3; no variable is named.
 abbrev pub PrintedG : Type 0
-PrintedG = shown G·text ≡
-    -- records 7 stack 2 cells 0
-    114 ∷ 101 ∷ 99 ∷ 111 ∷ 114 ∷ 100 ∷ 115 ∷ 32 ∷ 55 ∷ 32 ∷ 115 ∷ 116 ∷ 97 ∷ 99 ∷ 107 ∷ 32 ∷ 50 ∷ 32 ∷ 99 ∷ 101 ∷ 108 ∷ 108 ∷ 115 ∷ 32 ∷ 48 ∷ 10 ∷
-    -- 0 LOADI 2147483647 | MLOADI 2147483647
-    48 ∷ 32 ∷ 76 ∷ 79 ∷ 65 ∷ 68 ∷ 73 ∷ 32 ∷ 50 ∷ 49 ∷ 52 ∷ 55 ∷ 52 ∷ 56 ∷ 51 ∷ 54 ∷ 52 ∷ 55 ∷ 32 ∷ 124 ∷ 32 ∷ 77 ∷ 76 ∷ 79 ∷ 65 ∷ 68 ∷ 73 ∷ 32 ∷ 50 ∷ 49 ∷ 52 ∷ 55 ∷ 52 ∷ 56 ∷ 51 ∷ 54 ∷ 52 ∷ 55 ∷ 10 ∷
-    -- 1 LOADI 1 | MLOADI 1
-    49 ∷ 32 ∷ 76 ∷ 79 ∷ 65 ∷ 68 ∷ 73 ∷ 32 ∷ 49 ∷ 32 ∷ 124 ∷ 32 ∷ 77 ∷ 76 ∷ 79 ∷ 65 ∷ 68 ∷ 73 ∷ 32 ∷ 49 ∷ 10 ∷
-    -- 2 ADD | MADD
-    50 ∷ 32 ∷ 65 ∷ 68 ∷ 68 ∷ 32 ∷ 124 ∷ 32 ∷ 77 ∷ 65 ∷ 68 ∷ 68 ∷ 10 ∷
-    -- 3 LOADI 0 | MLOADI 0
-    51 ∷ 32 ∷ 76 ∷ 79 ∷ 65 ∷ 68 ∷ 73 ∷ 32 ∷ 48 ∷ 32 ∷ 124 ∷ 32 ∷ 77 ∷ 76 ∷ 79 ∷ 65 ∷ 68 ∷ 73 ∷ 32 ∷ 48 ∷ 10 ∷
-    -- 4 JMPGE 2 | MJMPGE 2
-    52 ∷ 32 ∷ 74 ∷ 77 ∷ 80 ∷ 71 ∷ 69 ∷ 32 ∷ 50 ∷ 32 ∷ 124 ∷ 32 ∷ 77 ∷ 74 ∷ 77 ∷ 80 ∷ 71 ∷ 69 ∷ 32 ∷ 50 ∷ 10 ∷
-    -- 5 JMP 1 | MJMP 1
-    53 ∷ 32 ∷ 74 ∷ 77 ∷ 80 ∷ 32 ∷ 49 ∷ 32 ∷ 124 ∷ 32 ∷ 77 ∷ 74 ∷ 77 ∷ 80 ∷ 32 ∷ 49 ∷ 10 ∷
-    -- 6 JMP 0 | MJMP 0
-    54 ∷ 32 ∷ 74 ∷ 77 ∷ 80 ∷ 32 ∷ 48 ∷ 32 ∷ 124 ∷ 32 ∷ 77 ∷ 74 ∷ 77 ∷ 80 ∷ 32 ∷ 48 ∷ 10 ∷
-    -- run range 3
-    114 ∷ 117 ∷ 110 ∷ 32 ∷ 114 ∷ 97 ∷ 110 ∷ 103 ∷ 101 ∷ 32 ∷ 51 ∷ 10 ∷
-    []
+PrintedG = shown G·text ≡ lines (
+    "records 7 stack 2 cells 0"
+    ∷ "0 LOADI 2147483647 | MLOADI 2147483647"
+    ∷ "1 LOADI 1 | MLOADI 1"
+    ∷ "2 ADD | MADD"
+    ∷ "3 LOADI 0 | MLOADI 0"
+    ∷ "4 JMPGE 2 | MJMPGE 2"
+    ∷ "5 JMP 1 | MJMP 1"
+    ∷ "6 JMP 0 | MJMP 0"
+    ∷ "run range 3"
+    ∷ [])
 
 -- J, whole: spent at the budget.
 abbrev pub PrintedJ : Type 0
-PrintedJ = shown J·text ≡
-    -- records 1 stack 0 cells 0
-    114 ∷ 101 ∷ 99 ∷ 111 ∷ 114 ∷ 100 ∷ 115 ∷ 32 ∷ 49 ∷ 32 ∷ 115 ∷ 116 ∷ 97 ∷ 99 ∷ 107 ∷ 32 ∷ 48 ∷ 32 ∷ 99 ∷ 101 ∷ 108 ∷ 108 ∷ 115 ∷ 32 ∷ 48 ∷ 10 ∷
-    -- 0 JMP -1 | MJMP -1
-    48 ∷ 32 ∷ 74 ∷ 77 ∷ 80 ∷ 32 ∷ 45 ∷ 49 ∷ 32 ∷ 124 ∷ 32 ∷ 77 ∷ 74 ∷ 77 ∷ 80 ∷ 32 ∷ 45 ∷ 49 ∷ 10 ∷
-    -- run spent 1000000
-    114 ∷ 117 ∷ 110 ∷ 32 ∷ 115 ∷ 112 ∷ 101 ∷ 110 ∷ 116 ∷ 32 ∷ 49 ∷ 48 ∷ 48 ∷ 48 ∷ 48 ∷ 48 ∷ 48 ∷ 10 ∷
-    []
+PrintedJ = shown J·text ≡ lines (
+    "records 1 stack 0 cells 0"
+    ∷ "0 JMP -1 | MJMP -1"
+    ∷ "run spent 1000000"
+    ∷ [])
 
--- refused 3 at 1
 abbrev pub PrintedRefusal : Type 0
-PrintedRefusal = shown x64·text
-    ≡ 114 ∷ 101 ∷ 102 ∷ 117 ∷ 115 ∷ 101 ∷ 100 ∷ 32 ∷ 51 ∷ 32 ∷ 97 ∷ 116 ∷ 32 ∷ 49 ∷ 10 ∷ []
+PrintedRefusal = shown x64·text ≡ lines ("refused 3 at 1" ∷ [])

@@ -1,3 +1,4 @@
+pub mod Ascii
 pub mod Numbers
 pub mod Printing
 pub mod Claims

@@ -1,9 +1,10 @@
--- Numbers as text, in ASCII.
+-- Numbers as bytes, in ASCII.
 use Prim.Native.Nat.{ℕ, zero, suc, _+_, _/_, _%_}
 use mathlib.Core.List.{List, [], _∷_, _++_}
 use lib.Dec.{ltb}
 use lib.IntN.{ℤ, pos, negsuc}
 use Rattle.base.specs.Acts.{if_then_else_}
+use Rattle.print.specs.Ascii.{ascii}
 
 -- n in decimal, by at most k digits: 48 is '0'
 unfoldable pub decimal-by : ℕ → ℕ → List ℕ
@@ -14,7 +15,6 @@ decimal-by (suc k) n = if ltb n 10 then (48 + n) ∷ [] else decimal-by k (n / 1
 abbrev pub decimal : ℕ → List ℕ
 decimal n = decimal-by 10 n
 
--- 45 is '-'
 unfoldable pub signed : ℤ → List ℕ
 signed (pos n) = decimal n
-signed (negsuc n) = 45 ∷ decimal (suc n)
+signed (negsuc n) = ascii "-" ++ decimal (suc n)

@@ -1,5 +1,4 @@
--- What the printing program prints for a text (document 01, "Profiles to hold it to"), in ASCII: 32 is a blank, 10 ends a
--- line.
+-- What the printing program prints for a text (document 01, "Profiles to hold it to").
 use Prim.Native.Nat.{ℕ, zero, suc}
 use mathlib.Core.List.{List, [], _∷_, _++_}
 use lib.IntN.{ℤ, pos}
@@ -17,90 +16,68 @@ use Rattle.record.specs.Records.{Record, LOADI, LOAD, ADD, STORE, JMP, JMPLESS,
 use Rattle.record.specs.Bytes.{Kind, assembly-kind, machine-kind, operand}
 use Rattle.compile.specs.Compilation.{ccomp}
 use Rattle.compile.specs.Table.{to-m-prog, table}
+use Rattle.print.specs.Ascii.{ascii, newline}
 use Rattle.print.specs.Numbers.{decimal, signed}
-
-abbrev pub newline : List ℕ
-newline = 10 ∷ []
 
 -- ---- "Line 1: record count, D, n"
 
--- "records "
-abbrev pub records-word : List ℕ
-records-word = 114 ∷ 101 ∷ 99 ∷ 111 ∷ 114 ∷ 100 ∷ 115 ∷ 32 ∷ []
-
--- " stack "
-abbrev pub stack-word : List ℕ
-stack-word = 32 ∷ 115 ∷ 116 ∷ 97 ∷ 99 ∷ 107 ∷ 32 ∷ []
-
--- " cells "
-abbrev pub cells-word : List ℕ
-cells-word = 32 ∷ 99 ∷ 101 ∷ 108 ∷ 108 ∷ 115 ∷ 32 ∷ []
-
 unfoldable pub first-line : Sizes → List ℕ
 first-line z =
-    records-word ++ (decimal (z .records) ++ (stack-word ++ (decimal (z .depth)
-    ++ (cells-word ++ (decimal (z .cells) ++ newline)))))
+    ascii "records " ++ (decimal (z .records) ++ (ascii " stack " ++ (decimal (z .depth)
+    ++ (ascii " cells " ++ (decimal (z .cells) ++ newline)))))
 
 -- ---- "Then position, assembly, machine; machine names have M in front, and an unused operand isn't printed"
 
 -- A record's name
 unfoldable pub name-text : {Name : Type 0} → Record Name → List ℕ
-name-text (LOADI z) = 76 ∷ 79 ∷ 65 ∷ 68 ∷ 73 ∷ []  -- LOADI
-name-text (LOAD x) = 76 ∷ 79 ∷ 65 ∷ 68 ∷ []  -- LOAD
-name-text ADD = 65 ∷ 68 ∷ 68 ∷ []  -- ADD
-name-text (STORE x) = 83 ∷ 84 ∷ 79 ∷ 82 ∷ 69 ∷ []  -- STORE
-name-text (JMP i) = 74 ∷ 77 ∷ 80 ∷ []  -- JMP
-name-text (JMPLESS i) = 74 ∷ 77 ∷ 80 ∷ 76 ∷ 69 ∷ 83 ∷ 83 ∷ []  -- JMPLESS
-name-text (JMPGE i) = 74 ∷ 77 ∷ 80 ∷ 71 ∷ 69 ∷ []  -- JMPGE
+name-text (LOADI z) = ascii "LOADI"
+name-text (LOAD x) = ascii "LOAD"
+name-text ADD = ascii "ADD"
+name-text (STORE x) = ascii "STORE"
+name-text (JMP i) = ascii "JMP"
+name-text (JMPLESS i) = ascii "JMPLESS"
+name-text (JMPGE i) = ascii "JMPGE"
 
 -- Its operand after a blank; ADD's is unused
 unfoldable pub operand-text : {Name : Type 0} → Kind Name → Record Name → List ℕ
-operand-text k (LOADI z) = 32 ∷ signed (operand k (LOADI z))
-operand-text k (LOAD x) = 32 ∷ signed (operand k (LOAD x))
+operand-text k (LOADI z) = ascii " " ++ signed (operand k (LOADI z))
+operand-text k (LOAD x) = ascii " " ++ signed (operand k (LOAD x))
 operand-text k ADD = []
-operand-text k (STORE x) = 32 ∷ signed (operand k (STORE x))
-operand-text k (JMP i) = 32 ∷ signed (operand k (JMP i))
-operand-text k (JMPLESS i) = 32 ∷ signed (operand k (JMPLESS i))
-operand-text k (JMPGE i) = 32 ∷ signed (operand k (JMPGE i))
+operand-text k (STORE x) = ascii " " ++ signed (operand k (STORE x))
+operand-text k (JMP i) = ascii " " ++ signed (operand k (JMP i))
+operand-text k (JMPLESS i) = ascii " " ++ signed (operand k (JMPLESS i))
+operand-text k (JMPGE i) = ascii " " ++ signed (operand k (JMPGE i))
 
 abbrev pub record-text : {Name : Type 0} → Kind Name → Record Name → List ℕ
 record-text k r = name-text r ++ operand-text k r
-
--- " | M"
-abbrev pub between : List ℕ
-between = 32 ∷ 124 ∷ 32 ∷ 77 ∷ []
 
 -- The lines of records from position i on, assembly and machine beside each other. (Bytes don't depend on the kind's n.)
 unfoldable pub record-lines : ℕ → AssemblyCode → MachineCode → List ℕ
 record-lines i [] Q = []
 record-lines i (a ∷ P) [] = []
 record-lines i (a ∷ P) (m ∷ Q) =
-    decimal i ++ (32 ∷ (record-text assembly-kind a ++ (between ++ (record-text (machine-kind 0) m
+    decimal i ++ (ascii " " ++ (record-text assembly-kind a ++ (ascii " | M" ++ (record-text (machine-kind 0) m
     ++ (newline ++ record-lines (suc i) P Q)))))
 
 -- ---- "Then end (done, spent or range) and count"
 
--- "run "
-abbrev pub run-word : List ℕ
-run-word = 114 ∷ 117 ∷ 110 ∷ 32 ∷ []
-
 unfoldable pub end-text : End → List ℕ
-end-text done = 100 ∷ 111 ∷ 110 ∷ 101 ∷ []  -- done
-end-text spent = 115 ∷ 112 ∷ 101 ∷ 110 ∷ 116 ∷ []  -- spent
-end-text (fault short) = 115 ∷ 104 ∷ 111 ∷ 114 ∷ 116 ∷ []  -- short
-end-text (fault full) = 102 ∷ 117 ∷ 108 ∷ 108 ∷ []  -- full
-end-text (fault out-of-range) = 114 ∷ 97 ∷ 110 ∷ 103 ∷ 101 ∷ []  -- range
-end-text (fault astray) = 97 ∷ 115 ∷ 116 ∷ 114 ∷ 97 ∷ 121 ∷ []  -- astray
+end-text done = ascii "done"
+end-text spent = ascii "spent"
+end-text (fault short) = ascii "short"
+end-text (fault full) = ascii "full"
+end-text (fault out-of-range) = ascii "range"
+end-text (fault astray) = ascii "astray"
 
 unfoldable pub run-line : End → ℕ → List ℕ
-run-line e count = run-word ++ (end-text e ++ (32 ∷ (decimal count ++ newline)))
+run-line e count = ascii "run " ++ (end-text e ++ (ascii " " ++ (decimal count ++ newline)))
 
 -- ---- "Then each named variable and value, ascending"
 
 -- the line of variable v with address a, if it is named
 unfoldable pub value-line : ℕ → ℕ → ℤ → List ℕ
 value-line v zero z = []
-value-line v (suc a) z = decimal v ++ (32 ∷ (signed z ++ newline))
+value-line v (suc a) z = decimal v ++ (ascii " " ++ (signed z ++ newline))
 
 -- the lines of k variables from v on
 unfoldable pub value-lines : List ℕ → Store → ℕ → ℕ → List ℕ
@@ -114,17 +91,9 @@ unfoldable pub run-lines : List ℕ → Answer Ran × Store → List ℕ
 run-lines t (gives r, s) = run-line (r .end) (r .count) ++ value-lines t s 0 64
 run-lines t (refused number place, s) = []
 
--- "refused "
-abbrev pub refused-word : List ℕ
-refused-word = 114 ∷ 101 ∷ 102 ∷ 117 ∷ 115 ∷ 101 ∷ 100 ∷ 32 ∷ []
-
--- " at "
-abbrev pub at-word : List ℕ
-at-word = 32 ∷ 97 ∷ 116 ∷ 32 ∷ []
-
 -- "A refusal prints refused, number, at, place"
 unfoldable pub refusal-line : ℕ → ℕ → List ℕ
-refusal-line number place = refused-word ++ (decimal number ++ (at-word ++ (decimal place ++ newline)))
+refusal-line number place = ascii "refused " ++ (decimal number ++ (ascii " at " ++ (decimal place ++ newline)))
 
 unfoldable pub answer-lines : List ℕ → Answer Command → List ℕ
 answer-lines text (gives c) =

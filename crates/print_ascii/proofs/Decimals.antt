@@ -15,6 +15,7 @@ use mir.Facts.{toZ-ofZ}
 use borrow.Author.Tests.{lt-ltb, le-ltb, ltb-true}
 use Rattle.base.specs.Acts.{if_then_else_}
 use Rattle.word.specs.Numbers.{bits-of}
+use Rattle.print.specs.Ascii.{ascii}
 use Rattle.print.specs.Numbers.{decimal-by, decimal, signed}
 
 -- ---- Digits
@@ -104,12 +105,12 @@ plain (pos n) h = refl
 plain (negsuc n) h = absurd (let no : _≡_ {A = ℕ} 0 1 = cc in omega arith)
 
 -- and below 0 it is a minus, and what its bits leave of 4294967296.
-minus : (z : ℤ) → SFits w32 z → ltZ z (pos 0) ≡ true → signed z ≡ 45 ∷ decimal (4294967296 - bits-of z)
+minus : (z : ℤ) → SFits w32 z → ltZ z (pos 0) ≡ true → signed z ≡ ascii "-" ++ decimal (4294967296 - bits-of z)
 unfolding signed bits-of
 minus (pos n) f h = absurd (omega (arith, ltb-true n 0 h))
 minus (negsuc n) f h =
     let size : suc n ≡ 4294967296 - bits-of (negsuc n) = omega (arith, f .sfits) in
-    ap (λ (m : ℕ). 45 ∷ decimal m) size
+    ap (λ (m : ℕ). ascii "-" ++ decimal m) size
 
 -- The same of the bits n and the test b that the code made of z as it is read back.
 module _ (z : ℤ) (fits : SFits w32 z) {n : ℕ} {b : Bool} (bits : n ≡ bits-of (toZ w32 (ofZ w32 z)))
@@ -123,5 +124,5 @@ module _ (z : ℤ) (fits : SFits w32 z) {n : ℕ} {b : Bool} (bits : n ≡ bits-
   pub signed-plain : b ≡ false → signed z ≡ decimal n
   signed-plain e = plain z (tested e) ∙ ap decimal same-bits
 
-  pub signed-minus : b ≡ true → signed z ≡ 45 ∷ decimal (4294967296 - n)
-  signed-minus e = minus z fits (tested e) ∙ ap (λ (m : ℕ). 45 ∷ decimal (4294967296 - m)) same-bits
+  pub signed-minus : b ≡ true → signed z ≡ ascii "-" ++ decimal (4294967296 - n)
+  signed-minus e = minus z fits (tested e) ∙ ap (λ (m : ℕ). ascii "-" ++ decimal (4294967296 - m)) same-bits

@@ -1,13 +1,14 @@
 -- The value lines are the lines of all variables, in a row.
 use mathlib.Core.Path.{_≡_, refl, ap}
-use mathlib.Core.List.{List, [], _∷_, _++_}
+use mathlib.Core.List.{List, [], _++_}
 use Prim.Native.Nat.{ℕ, zero, suc, _+_}
 use native.Mathlib.Omega.{arith}
 use lib.IntN.{ℤ, pos}
 use lib.ListN.{getD}
+use Rattle.print.specs.Ascii.{ascii, newline}
 use Rattle.print.specs.Numbers.{decimal, signed}
 use Rattle.print_ascii.proofs.Rows.{rows}
-use Rattle.print.specs.Printing.{newline, value-line, value-lines}
+use Rattle.print.specs.Printing.{value-line, value-lines}
 
 -- A variable without an address has no line,
 pub unnamed : (v a : ℕ) (z : ℤ) → a ≡ 0 → value-line v a z ≡ []
@@ -16,7 +17,7 @@ unnamed v zero z e = refl
 unnamed v (suc a) z e = absurd (omega arith)
 
 -- and any other has one.
-pub named-value : (v a : ℕ) (z : ℤ) → (a ≡ 0 → ⊥) → value-line v a z ≡ decimal v ++ (32 ∷ (signed z ++ newline))
+pub named-value : (v a : ℕ) (z : ℤ) → (a ≡ 0 → ⊥) → value-line v a z ≡ decimal v ++ (ascii " " ++ (signed z ++ newline))
 unfolding value-line
 named-value v zero z h = absurd (h refl)
 named-value v (suc a) z h = refl

@@ -11,9 +11,10 @@ use Rattle.record.specs.declared.Address.{Address}
 use Rattle.record.specs.Records.{Record, LOADI, LOAD, ADD, STORE, JMP, JMPLESS, JMPGE, AssemblyCode, MachineCode}
 use Rattle.record.specs.Bytes.{assembly-kind, machine-kind, record-at, operand}
 use Rattle.record.proofs.Tested.{records-at, records-length}
+use Rattle.print.specs.Ascii.{ascii, newline}
 use Rattle.print.specs.Numbers.{decimal}
 use Rattle.print_ascii.proofs.Rows.{rows}
-use Rattle.print.specs.Printing.{operand-text, record-text, between, newline, record-lines}
+use Rattle.print.specs.Printing.{operand-text, record-text, record-lines}
 use Rattle.print_records.specs.Lines.{line-at, Codes}
 use Rattle.print_records.proofs.Texts.{Numbered, text-is}
 
@@ -40,7 +41,8 @@ module _ (assembly machine : List ℕ) (n : ℕ) where
   line-is : (i : ℕ) (a : Record Variable) (m : Record Address) (rest : List ℕ)
       → record-at assembly-kind assembly i ≡ some a → record-at (machine-kind n) machine i ≡ some m
       → decimal i
-      ++ (32 ∷ (record-text assembly-kind a ++ (between ++ (record-text (machine-kind 0) m ++ (newline ++ rest)))))
+      ++ (ascii " " ++ (record-text assembly-kind a
+      ++ (ascii " | M" ++ (record-text (machine-kind 0) m ++ (newline ++ rest)))))
       ≡ line-at assembly machine i ++ rest
   unfolding line-at
   line-is i a m rest e f =

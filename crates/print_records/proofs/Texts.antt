@@ -2,7 +2,7 @@
 -- cases on what the first byte stands for.
 use mathlib.Core.Path.{_≡_, refl, sym, ap, _∙_}
 use mathlib.Core.Bool.{Bool, true, false}
-use mathlib.Core.List.{List, _∷_, _++_, append-nil}
+use mathlib.Core.List.{List, _++_, append-nil}
 use mathlib.Core.Option.{some}
 use Prim.Native.Nat.{ℕ, _+_, _*_, _<_, _≤_}
 use native.Mathlib.Omega.{arith}
@@ -17,6 +17,7 @@ use Rattle.record.specs.Bytes.{Kind, operand, Operation, loadi, load, add, stor
 use Rattle.record.specs.Bytes.{operation, is-zero, record-of, record-at}
 use Rattle.record.proofs.Reading.{by-number}
 use Rattle.record.proofs.Decoding.{Named, as-named, as-add}
+use Rattle.print.specs.Ascii.{ascii}
 use Rattle.print.specs.Numbers.{signed}
 use Rattle.print_ascii.specs.Puts.{Puts}
 use Rattle.print_ascii.proofs.Puts.{puts-is}
@@ -42,7 +43,7 @@ either f false p q = q
 
 -- Every byte but ADD's has its operand printed.
 operand-shown : (first byte : ℕ) (z : ℤ) → (byte ≡ first + 2 → ⊥)
-    → operation-operand (operation first byte) z ≡ 32 ∷ signed z
+    → operation-operand (operation first byte) z ≡ ascii " " ++ signed z
 unfolding operation operation-operand
 operand-shown first byte z h =
     let shows : Operation → List ℕ = λ o. operation-operand o z in
@@ -70,11 +71,11 @@ module _ (first : ℕ) (code : List ℕ) (i : ℕ) where
 
   -- and every other is its name, a blank and its operand.
   pub text-of-other : (z : ℤ) → (getD code (5 * i) 0 ≡ first + 2 → ⊥) → z ≡ number-at code (5 * i + 1)
-      → text-at first code i ≡ name-at ++ (32 ∷ signed z)
+      → text-at first code i ≡ name-at ++ (ascii " " ++ signed z)
   unfolding text-at
   text-of-other z h e =
       ap (λ (l : List ℕ). name-at ++ l) (operand-shown first (getD code (5 * i) 0) (number-at code (5 * i + 1)) h)
-      ∙ ap (λ (y : ℤ). name-at ++ (32 ∷ signed y)) (sym e)
+      ∙ ap (λ (y : ℤ). name-at ++ (ascii " " ++ signed y)) (sym e)
 
 -- ---- Lengths
 

@@ -1,7 +1,7 @@
 -- A record line from the bytes of both codes: what it shows of each is in its five bytes.
 use mathlib.Core.Path.{_≡_}
 use Prim.Native.Nat.{ℕ, _+_, _*_}
-use mathlib.Core.List.{List, [], _∷_, _++_}
+use mathlib.Core.List.{List, [], _++_}
 use lib.IntN.{ℤ, pos}
 use lib.ListN.{getD}
 use Rattle.base.specs.Answers.{gives}
@@ -9,8 +9,9 @@ use Rattle.word.specs.Numbers.{number-at}
 use Rattle.record.specs.Records.{LOADI, LOAD, ADD, STORE, JMP, JMPLESS, JMPGE, AssemblyCode, MachineCode}
 use Rattle.record.specs.Bytes.{Operation, loadi, load, add, store, jmp, jmpless, jmpge, unknown, operation}
 use Rattle.record.specs.Bytes.{assembly-kind, machine-kind, records-from}
+use Rattle.print.specs.Ascii.{ascii, newline}
 use Rattle.print.specs.Numbers.{decimal, signed}
-use Rattle.print.specs.Printing.{name-text, between, newline}
+use Rattle.print.specs.Printing.{name-text}
 
 -- The name of what a byte stands for; nothing for a byte that stands for nothing
 unfoldable pub operation-name : Operation → List ℕ
@@ -25,14 +26,14 @@ operation-name unknown = []
 
 -- Its operand after a blank, but for ADD
 unfoldable pub operation-operand : Operation → ℤ → List ℕ
-operation-operand loadi z = 32 ∷ signed z
-operation-operand load z = 32 ∷ signed z
+operation-operand loadi z = ascii " " ++ signed z
+operation-operand load z = ascii " " ++ signed z
 operation-operand add z = []
-operation-operand store z = 32 ∷ signed z
-operation-operand jmp z = 32 ∷ signed z
-operation-operand jmpless z = 32 ∷ signed z
-operation-operand jmpge z = 32 ∷ signed z
-operation-operand unknown z = 32 ∷ signed z
+operation-operand store z = ascii " " ++ signed z
+operation-operand jmp z = ascii " " ++ signed z
+operation-operand jmpless z = ascii " " ++ signed z
+operation-operand jmpge z = ascii " " ++ signed z
+operation-operand unknown z = ascii " " ++ signed z
 
 -- The text at an index of code whose LOADI is `first`
 unfoldable pub text-at : ℕ → List ℕ → ℕ → List ℕ
@@ -43,7 +44,7 @@ text-at first code i =
 -- The line of position i: assembly and machine beside each other
 unfoldable pub line-at : List ℕ → List ℕ → ℕ → List ℕ
 line-at assembly machine i =
-    decimal i ++ (32 ∷ (text-at 0x40 assembly i ++ (between ++ (text-at 0x50 machine i ++ newline))))
+    decimal i ++ (ascii " " ++ (text-at 0x40 assembly i ++ (ascii " | M" ++ (text-at 0x50 machine i ++ newline))))
 
 -- P and Q are the records of the two codes, `count` each; n is how many addresses there are
 pub record Codes (assembly machine : List ℕ) (count n : ℕ) (P : AssemblyCode) (Q : MachineCode) : Type 0 where
