@@ -120,11 +120,6 @@ ends text lent memory store budget (ended (Early.spent, s)) m r z =
       r ∙ ap (λ k. (gives (ran End.spent k (s .mark)), s .store)) whole,
     ))
 
--- document 01's rule for sums does not look at the ticks left
-steady32 : (n n′ : ℕ) (x y : ℤ) → sum32 n x y ≡ sum32 n′ x y
-unfolding sum32
-steady32 n n′ x y = refl
-
 pub demand3 : Demand3
 demand3 text bytes c read lent memory store ready budget =
     let r = run-rules sum32 c budget store in
@@ -136,7 +131,7 @@ demand3 text bytes c read lent memory store ready budget =
       range-alike =
           alike text lent memory store budget (report budget r) (r .leaves) m s (fault Fault.out-of-range);
       one-of-three = ends text lent memory store budget (exec sum32 c (start budget store)) m s
-          (ticked sum32 steady32 c budget store .spent-all);
+          (ticked c budget store .spent-all);
       stack = λ steps.
           let x = fresh-inside sum32 D (machine-cells D) (to-m-prog (ccomp c)) steps
           (loaded (table (ccomp c)) D (cells c) store) in

@@ -3,17 +3,12 @@
 -- of the budget left, and under any smaller one it is spent. The proof of the same spelling stands in proofs/.
 use mathlib.Core.Path.{_≡_}
 use Prim.Native.Nat.{ℕ, _+_, _≤_, _<_}
-use lib.IntN.{ℤ}
 use Rattle.base.specs.Ends.{End, result}
-use Rattle.word.specs.Sums.{SumRule}
+use Rattle.word.specs.Sums.{SumRule, sum32}
 use Rattle.text.specs.Syntax.{Command}
 use Rattle.source.specs.Rules.{Store, run-rules}
 
--- A rule for sums that does not look at the ticks left
-abbrev pub Steady : SumRule → Type 0
-Steady sum = (n n′ : ℕ) (x y : ℤ) → sum n x y ≡ sum n′ x y
-
--- What a run of c from s under the budget n says of its ticks
+-- What a run of c from s under the budget n, by a rule for sums, says of its ticks
 pub record Ticks (sum : SumRule) (c : Command) (n : ℕ) (s : Store) : Type 0 where
   pub most : run-rules sum c n s .left ≤ n
   pub spent-all : run-rules sum c n s .end ≡ End.spent → run-rules sum c n s .left ≡ 0
@@ -22,5 +17,6 @@ pub record Ticks (sum : SumRule) (c : Command) (n : ℕ) (s : Store) : Type 0 wh
   pub fewer : (run-rules sum c n s .end ≡ End.spent → ⊥) → (k : ℕ) → k + run-rules sum c n s .left ≡ n
       → (j : ℕ) → j < k → run-rules sum c j s .end ≡ End.spent
 
-abbrev pub Ticked : SumRule → Type 0
-Ticked sum = Steady sum → (c : Command) (n : ℕ) (s : Store) → Ticks sum c n s
+-- So it is by document 01's rule for sums, which all calls name.
+abbrev pub Ticked : Type 0
+Ticked = (c : Command) (n : ℕ) (s : Store) → Ticks sum32 c n s

@@ -7,10 +7,9 @@ use native.Mathlib.Nat.{zero-add}
 use native.Mathlib.Omega.{arith}
 use mathlib.Core.List.{List}
 use mathlib.Core.Option.{some}
-use lib.IntN.{ℤ}
 use lib.ListN.{getElem?}
 use Rattle.base.specs.Ends.{End, fault, Result, result}
-use Rattle.word.specs.Sums.{SumRule}
+use Rattle.word.specs.Sums.{SumRule, Steady}
 use Rattle.record.specs.Records.{Record}
 use Rattle.machine.specs.Machine.{Memory, Machine, run}
 use Rattle.machine.specs.Claims.{resume, Walk, stay, step, Made}
@@ -91,11 +90,12 @@ module _ {M Name : Type 0} (sum : SumRule) (D : ℕ) (o : Memory M Name) (code :
   short-of b p End.spent e₁ l μ μ₁ s′ s₁ g = refl
   short-of b p (fault f) e₁ l μ μ₁ s′ s₁ g = let z : l + b ≡ 0 = ap (λ r. r .left) g in absurd (omega arith)
 
-  module _ (steady : (n n′ : ℕ) (x y : ℤ) → sum n x y ≡ sum n′ x y) where
+  module _ (steady : Steady sum) where
     abbrev resumed : ℕ → Result (Machine M) → Result (Machine M)
     resumed b r = resume sum D o code b (r .end) (r .left) (r .mark) (r .leaves)
 
-    cut : (a b μ : ℕ) (s : Machine M) → run sum D o code (a + b) μ s ≡ resumed b (run sum D o code a μ s)
+    -- a run cut in two goes by the same rule in both parts
+    pub cut : (a b μ : ℕ) (s : Machine M) → run sum D o code (a + b) μ s ≡ resumed b (run sum D o code a μ s)
     cut a b μ s =
         split sum D o code a b μ s
         ∙ ap (λ (rule : SumRule). resumed b (run rule D o code a μ s))

@@ -1,5 +1,5 @@
 -- Pausing and going on (Pieces: Pieces, PiecesFrom, GoesOn, HandsOut, FifteenAlone). The idea: a run with a + b ticks is a
--- run with a ticks, gone on with b where those were spent (`split`); the state that is handed out stands within its
+-- run with a ticks, gone on with b where those were spent (`cut`); the state that is handed out stands within its
 -- bounds (`inside`), so the next call takes it.
 use mathlib.Core.Path.{_≡_, refl, sym, _∙_, ap}
 use mathlib.Core.Logic.{_⊎_, inl, inr}
@@ -16,6 +16,7 @@ use Rattle.base.specs.Answers.{Answer, gives, refused, unless_refuse_at_else_, 
 use Rattle.base.specs.Ends.{End, fault, Result, Ran, ran}
 use Rattle.base.proofs.Settled.{not-both, Gave, gave}
 use Rattle.word.specs.Sums.{sum32}
+use Rattle.word.proofs.Claims.{steady-sums}
 use Rattle.record.specs.Records.{MachineCode}
 use Rattle.record.specs.Bytes.{machine-kind, whole-records, records-of}
 use Rattle.machine.specs.Machine.{Machine, at as machine-at, run}
@@ -26,8 +27,7 @@ use Rattle.machine.specs.Calls.{fresh-state, state-tests, go-on, run-mac
 use Rattle.machine.specs.Pieces.{after-piece, in-pieces, total, Pieces, PiecesFrom, GoesOn, HandsOut, Unfit}
 use Rattle.machine.specs.Pieces.{FifteenAlone}
 use Rattle.machine.specs.declared.State.{State}
-use Rattle.machine.proofs.Splitting.{split}
-use Rattle.machine.proofs.Exact.{left-most, spent-all}
+use Rattle.machine.proofs.Exact.{left-most, spent-all, cut}
 use Rattle.machine.proofs.Inside.{inside}
 use Rattle.machine.proofs.Marks.{highest}
 use Rattle.machine.proofs.Calls.{length-kept, StateFound, state-passed, state-passes, first-refused, bounded}
@@ -185,19 +185,15 @@ module _ (a b : ℕ) (code : List ℕ) (m : List ℤ) (D n : ℕ) (s : State) (k
         ∙ ap (λ c. (gives (tell (r .end) c (r .mark) (r .leaves)), r .leaves .memory)) on
 
     in-two : two-calls ≡ go-on code m D n s (a + b)
-    unfolding sum32
     in-two =
         let here = machine-at (s .position) (s .size) m in
         let r = run-from P m D s a in
         let in-bounds = bounded code m D n s a f in
-        let cut : run-from P m D s (a + b)
-        ≡ resume sum32 D (machine-cells D) P b (r .end) (r .left) (r .mark) (r .leaves) =
-        split sum32 D (machine-cells D) P a b (s .mark) here in
         ap (λ x. after-piece x (λ s′ m′. go-on code m′ D n s′ b))
         (sym (state-runs code m D n s a (state-passes code m D n s a f)))
         ∙ by-end (r .end) (r .left) (r .mark) (r .leaves) (spent-all sum32 D (machine-cells D) P a (s .mark) here)
         (inside sum32 D (machine-cells D) P a (s .mark) here in-bounds) (length-kept P m D s a in-bounds)
-        ∙ ap told-of (sym cut)
+        ∙ ap told-of (sym (cut sum32 D (machine-cells D) P steady-sums a b (s .mark) here))
         ∙ state-runs code m D n s (a + b) (state-passes code m D n s (a + b) (record {
           records = f .records;
           placed = f .placed;

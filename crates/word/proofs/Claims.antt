@@ -14,8 +14,13 @@ use Rattle.word.specs.declared.Sum.the-variants.{Fits, Out}
 use Rattle.word.specs.Sums.{least, greatest, limited, sum32}
 use Rattle.word.specs.Numbers.{joined, number-of, number-at, split, bits-of, bytes-of, byte-number, byte-of}
 use Rattle.word.specs.Targets.{within, target}
-use Rattle.word.specs.Claims.{Exact, NumberOfBytes, BytesOfNumber, NumbersFit, SignedBytes, Jumps}
+use Rattle.word.specs.Claims.{Exact, SteadySums, NumberOfBytes, BytesOfNumber, NumbersFit, SignedBytes, Jumps}
 use Rattle.word.proofs.Laws.{joined-again}
+
+-- The rule does not look at the ticks left, by its definition.
+pub steady-sums : SteadySums
+unfolding sum32
+steady-sums n n′ x y = refl
 
 -- A number within two tests is what it was before them.
 kept : (low high : Bool) (s z : ℤ) → (if low then Out else if high then Out else Fits s) ≡ Fits z → z ≡ s

@@ -1,4 +1,5 @@
 -- Sums on 32-bit numbers (document 01, "Source rules and ticks").
+use mathlib.Core.Path.{_≡_}
 use lib.IntN.{ℤ, pos, negsuc, _+ℤ_}
 use Prim.Native.Nat.{ℕ}
 use lib.Signed.{ltZ}
@@ -22,6 +23,10 @@ limited z = if ltZ z least then Out else if ltZ greatest z then Out else Fits z
 abbrev pub SumRule : Type 0
 SumRule = ℕ → ℤ → ℤ → Sum
 
--- Document 01's rule does not look at the ticks left
+-- A rule that does not look at the ticks left
+abbrev pub Steady : SumRule → Type 0
+Steady sum = (n n′ : ℕ) (x y : ℤ) → sum n x y ≡ sum n′ x y
+
+-- Document 01's rule. It is steady (Claims: SteadySums)
 unfoldable pub sum32 : SumRule
 sum32 left x y = limited (x +ℤ y)
