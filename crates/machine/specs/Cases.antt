@@ -106,7 +106,8 @@ pub record AssemblyDeclines : Type 0 where
 abbrev pub memory : ℕ → List ℤ
 memory k = replicate k (pos 8)
 
--- Number and place, and the memory as it was. After the memory stand D, n and the budget.
+-- Number and place, and the memory as it was. After the memory stand D, n and the budget. Where there are two faults,
+-- the first in order is given.
 pub record MachineDeclines : Type 0 where
   -- 9: 4 bytes
   pub nine : run-machine (replicate 4 0x50) (memory 4) 2 1 9 ≡ (refused 9 0, memory 4)
@@ -192,7 +193,8 @@ pub record Pauses : Type 0 where
 abbrev pub from-state : State → ℕ → Answer Told × List ℤ
 from-state s budget = go-on forever (memory 3) 2 0 s budget
 
--- Number and place, and the memory as it was. Before the budget stands the state.
+-- Number and place, and the memory as it was. Before the budget stands the state. Where there are two faults, the first
+-- in order is given.
 pub record StateDeclines : Type 0 where
   -- 15: a position past the end; a stack size above the mark; a mark above D; a count that with the budget passes
   -- 4294967295
@@ -205,6 +207,9 @@ pub record StateDeclines : Type 0 where
   -- at its limits a state is not refused
   pub not-fifteen : from-state (state 1 2 4294967295 2) 0 ≡ (gives (done-at 4294967295 2), memory 3)
   pub not-fifteen-count : from-state (state 0 2 4294967295 2) 0 ≡ (gives (paused (state 0 2 4294967295 2)), memory 3)
+  -- 9, and 10: `52 01 00 00 00` and a byte more; 10, and 11: `52 01 00 00 00`, and 4 cells; the state passes
+  pub nine-ten : go-on (five 0x52 1 ++ (0x50 ∷ [])) (memory 3) 2 0 (state 0 1 1 1) 9 ≡ (refused 9 0, memory 3)
+  pub ten-eleven : go-on (five 0x52 1) (memory 4) 2 0 (state 0 1 1 1) 9 ≡ (refused 10 0, memory 4)
   -- 9, and 15; 10, and 15; 11, and 15: the state is unfit in each way
   pub nine-fifteen : go-on (replicate 4 0x50) (memory 3) 2 0 (state 9 9 4294967295 8) 9 ≡ (refused 9 0, memory 3)
   pub ten-fifteen : go-on (five 0x52 1) (memory 3) 2 0 (state 9 9 4294967295 8) 9 ≡ (refused 10 0, memory 3)
