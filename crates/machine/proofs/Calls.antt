@@ -1,8 +1,10 @@
 -- The run calls by the answer of their tests: the answer from what each test finds; what was found, from the number of
--- records given; what the call then gives and leaves, the refusal and its memory untouched or the records' run. The run
--- from a fresh machine is that from its state, which always passes (Pieces: FreshRun).
+-- records given; what the call then gives and leaves, the refusal and its memory untouched or the records' run. 15's
+-- test is the request's four conditions (Calls: FitsOrUnfit). The run from a fresh machine is that from its state,
+-- which always passes (Pieces: FreshRun).
 use mathlib.Core.Path.{_≡_, refl, sym, _∙_, ap, subst}
-use mathlib.Core.Bool.{Bool, true, false}
+use mathlib.Core.Bool.{Bool, true, false, _&&_}
+use mathlib.Core.Logic.{_⊎_, inl, inr}
 use mathlib.Core.List.{List}
 use Prim.Native.Nat.{ℕ, _+_, _-_, _*_, _≤_, _<_}
 use native.Mathlib.Decide.{decLt}
@@ -30,7 +32,8 @@ use Rattle.machine.specs.Machine.{Machine, at as machine-at}
 use Rattle.machine.specs.Memories.{Assembly, machine-cells}
 use Rattle.machine.specs.Calls.{assembly-tests, assembly-run, run-assembly}
 use Rattle.machine.specs.Calls.{memory-fits, machine-tests, fresh-state, run-from, machine-run, Told, tell}
-use Rattle.machine.specs.Calls.{piece-told, state-fits, state-tests, go-on, run-machine, ran-of, answer-without-state, without-state}
+use Rattle.machine.specs.Calls.{piece-told, Unfit, state-fits, FitsOrUnfit, state-tests, go-on, run-machine}
+use Rattle.machine.specs.Calls.{ran-of, answer-without-state, without-state}
 use Rattle.machine.specs.Claims.{InBounds}
 use Rattle.machine.specs.Pieces.{FreshRun}
 use Rattle.machine.specs.declared.State.{State}
@@ -351,3 +354,46 @@ fresh-run code m D n budget = by (machine-tests code m D n) refl
     by (gives P) e = sym (machine-runs code m D n budget e) ∙ settled (machine-tests code m D n) _ _ m e refl
     by (refused number place) e =
         sym (machine-declines code m D n budget e) ∙ declined (machine-tests code m D n) _ _ m e
+
+-- ---- 15's test: a state passes it exactly where it is not unfit (Calls: FitsOrUnfit)
+
+both-false : (a b : Bool) → b ≡ false → (a && b) ≡ false
+both-false true b e = e
+both-false false b e = refl
+
+module _ (s : State) (last D budget : ℕ) (small : budget ≤ 4294967295) where
+  pub unfit-fails : Unfit s last D budget → state-fits s last D budget ≡ false
+  unfit-fails (inl l) = simp (lt-leb _ _ l)
+  unfit-fails (inr (inl l)) = both-false (leb (s .position) last) _ (simp (lt-leb _ _ l))
+  unfit-fails (inr (inr (inl l))) =
+      both-false (leb (s .position) last) _ (both-false (leb (s .size) (s .mark)) _ (simp (lt-leb _ _ l)))
+  unfit-fails (inr (inr (inr l))) =
+      let past : 4294967295 - budget < s .count = omega arith in
+      both-false (leb (s .position) last) _
+      (both-false (leb (s .size) (s .mark)) _ (both-false (leb (s .mark) D) _ (lt-leb _ _ past)))
+
+  by-limits : Dec (last < s .position) → Dec (s .mark < s .size) → Dec (D < s .mark)
+      → Dec (4294967295 < s .count + budget) → Unfit s last D budget ⊎ (state-fits s last D budget ≡ true)
+  by-limits (yes l) q d k = inl (inl l)
+  by-limits (no p) (yes l) d k = inl (inr (inl l))
+  by-limits (no p) (no q) (yes l) k = inl (inr (inr (inl l)))
+  by-limits (no p) (no q) (no d) (yes l) = inl (inr (inr (inr l)))
+  by-limits (no p) (no q) (no d) (no k) = inr (simp (
+    le-leb (s .position) last (omega (arith, p)),
+    le-leb (s .size) (s .mark) (omega (arith, q)),
+    le-leb (s .mark) D (omega (arith, d)),
+    le-leb (s .count) (4294967295 - budget) (omega (arith, k)),
+  ))
+
+  pub unfit-or-fits : Unfit s last D budget ⊎ (state-fits s last D budget ≡ true)
+  unfit-or-fits =
+      by-limits (decLt last (s .position)) (decLt (s .mark) (s .size)) (decLt D (s .mark))
+      (decLt 4294967295 (s .count + budget))
+
+pub fits-or-unfit : FitsOrUnfit
+fits-or-unfit s last D budget small = (
+  λ fits unfit.
+      let fails = unfit-fails s last D budget small unfit in
+      absurd (let no : _≡_ {A = ℕ} 0 1 = cc in omega arith),
+  λ none. elim (unfit-or-fits s last D budget small) [ inl unfit ↦ absurd (none unfit) | inr fits ↦ fits ],
+)

@@ -2,16 +2,15 @@
 -- run with a ticks, gone on with b where those were spent (`cut`); the state that is handed out stands within its
 -- bounds (`inside`), so the next call takes it.
 use mathlib.Core.Path.{_≡_, refl, sym, _∙_, ap}
-use mathlib.Core.Logic.{_⊎_, inl, inr}
-use Prim.Native.Nat.{ℕ, _+_, _-_, _≤_, _<_}
-use native.Mathlib.Decide.{decLt}
+use mathlib.Core.Logic.{inl, inr}
+use Prim.Native.Nat.{ℕ, _+_, _-_, _≤_}
 use native.Mathlib.Omega.{arith}
 use mathlib.Core.Bool.{Bool, true, false, _&&_}
 use mathlib.Core.List.{List, [], _∷_}
 use lib.Dec.{leb, eqb}
 use lib.IntN.{ℤ}
 use lib.ListN.{length}
-use borrow.Author.Tests.{lt-leb, leb-true}
+use borrow.Author.Tests.{leb-true}
 use Rattle.base.specs.Answers.{Answer, gives, refused, unless_refuse_at_else_, and-then}
 use Rattle.base.specs.Ends.{End, fault, Result, Ran, ran}
 use Rattle.base.proofs.Settled.{not-both, Gave, gave}
@@ -22,16 +21,16 @@ use Rattle.record.specs.Bytes.{machine-kind, whole-records, records-of}
 use Rattle.machine.specs.Machine.{Machine, at as machine-at, run}
 use Rattle.machine.specs.Memories.{machine-cells}
 use Rattle.machine.specs.Claims.{resume, InBounds}
-use Rattle.machine.specs.Calls.{machine-tests, run-from, Told, finished, paused, tell, piece-told, state-fits}
-use Rattle.machine.specs.Calls.{fresh-state, state-tests, go-on, run-machine, ran-of}
-use Rattle.machine.specs.Pieces.{after-piece, in-pieces, total, Pieces, PiecesFrom, GoesOn, HandsOut, Unfit}
+use Rattle.machine.specs.Calls.{machine-tests, run-from, Told, finished, paused, tell, piece-told, Unfit}
+use Rattle.machine.specs.Calls.{fresh-state, state-fits, state-tests, go-on, run-machine, ran-of}
+use Rattle.machine.specs.Pieces.{after-piece, in-pieces, total, Pieces, PiecesFrom, GoesOn, HandsOut}
 use Rattle.machine.specs.Pieces.{FifteenAlone}
 use Rattle.machine.specs.declared.State.{State}
 use Rattle.machine.proofs.Exact.{left-most, spent-all, cut}
 use Rattle.machine.proofs.Inside.{inside}
 use Rattle.machine.proofs.Marks.{highest}
 use Rattle.machine.proofs.Calls.{length-kept, StateFound, state-passed, state-passes, first-refused, bounded}
-use Rattle.machine.proofs.Calls.{state-declines, state-runs, told-ran}
+use Rattle.machine.proofs.Calls.{unfit-fails, unfit-or-fits, fits-or-unfit, state-declines, state-runs, told-ran}
 
 -- ---- Tests
 
@@ -261,56 +260,29 @@ pieces code m D n b bs k =
 
 -- ---- Refusals
 
-both-false : (a b : Bool) → b ≡ false → (a && b) ≡ false
-both-false true b e = e
-both-false false b e = refl
-
 module _ (code : List ℕ) (m : List ℤ) (D n : ℕ) (s : State) (budget : ℕ) (small : budget ≤ 4294967295)
     (P : MachineCode) (e : machine-tests code m D n ≡ gives P) where
-  unfit-fails : Unfit s (length P) D budget → state-fits s (length P) D budget ≡ false
-  unfit-fails (inl l) = simp (lt-leb _ _ l)
-  unfit-fails (inr (inl l)) = both-false (leb (s .position) (length P)) _ (simp (lt-leb _ _ l))
-  unfit-fails (inr (inr (inl l))) =
-      both-false (leb (s .position) (length P)) _ (both-false (leb (s .size) (s .mark)) _ (simp (lt-leb _ _ l)))
-  unfit-fails (inr (inr (inr l))) =
-      let past : 4294967295 - budget < s .count = omega arith in
-      both-false (leb (s .position) (length P)) _
-      (both-false (leb (s .size) (s .mark)) _ (both-false (leb (s .mark) D) _ (lt-leb _ _ past)))
-
   unfit-refused : Unfit s (length P) D budget → state-tests code m D n s budget ≡ refused 15 0
   unfolding state-tests and-then
-  unfit-refused u = simp (e, unfit-fails u)
+  unfit-refused u = simp (e, unfit-fails s (length P) D budget small u)
 
-  -- a state is unfit, or passes
-  by-limits : Dec (length P < s .position) → Dec (s .mark < s .size) → Dec (D < s .mark)
-      → Dec (4294967295 < s .count + budget) → Unfit s (length P) D budget ⊎ StateFound code m D n s budget P
-  by-limits (yes l) q d k = inl (inl l)
-  by-limits (no p) (yes l) d k = inl (inr (inl l))
-  by-limits (no p) (no q) (yes l) k = inl (inr (inr (inl l)))
-  by-limits (no p) (no q) (no d) (yes l) = inl (inr (inr (inr l)))
-  by-limits (no p) (no q) (no d) (no k) = inr (record {
-    records = e;
-    placed = omega (arith, p);
-    held = omega (arith, q);
-    marked = omega (arith, d);
-    room = omega (arith, k);
-  })
+  fit-passes : state-fits s (length P) D budget ≡ true → state-tests code m D n s budget ≡ gives P
+  unfolding state-tests and-then
+  fit-passes f = simp (e, f)
 
-  unfit-or-passes : Unfit s (length P) D budget ⊎ StateFound code m D n s budget P
-  unfit-or-passes =
-      by-limits (decLt (length P) (s .position)) (decLt (s .mark) (s .size)) (decLt D (s .mark))
-      (decLt 4294967295 (s .count + budget))
-
-  runs-fit : StateFound code m D n s budget P → let r = run-from P m D s budget in
+  fit-runs : state-fits s (length P) D budget ≡ true → let r = run-from P m D s budget in
       go-on code m D n s budget ≡ (gives (piece-told s budget r), r .leaves .memory)
-  runs-fit f = sym (state-runs code m D n s budget (state-passes code m D n s budget f))
+  fit-runs f = sym (state-runs code m D n s budget (fit-passes f))
 
   refused-unfit : go-on code m D n s budget ≡ (refused 15 0, m) → Unfit s (length P) D budget
-  refused-unfit h = elim unfit-or-passes [ inl u ↦ u | inr f ↦ not-both (ap (λ x. x .0) (sym h ∙ runs-fit f)) ]
+  refused-unfit h = elim (unfit-or-fits s (length P) D budget small) [
+    | inl u ↦ u
+    | inr f ↦ not-both (ap (λ x. x .0) (sym h ∙ fit-runs f))
+  ]
 
   else-run : (Unfit s (length P) D budget → ⊥) → let r = run-from P m D s budget in
       go-on code m D n s budget ≡ (gives (piece-told s budget r), r .leaves .memory)
-  else-run none = elim unfit-or-passes [ inl u ↦ absurd (none u) | inr f ↦ runs-fit f ]
+  else-run none = fit-runs (fits-or-unfit s (length P) D budget small .1 none)
 
 pub fifteen-alone : FifteenAlone
 fifteen-alone code m D n s budget small = record {

@@ -1,7 +1,10 @@
 -- The calls `run_assembly` and `run_machine` (document 01, "Executors"), which "run from a fresh machine", and `go_on`
--- (document 02, W7), which runs on from the state of a paused run.
-use Prim.Native.Nat.{ℕ, _+_, _-_}
-use mathlib.Core.Bool.{Bool, _&&_}
+-- (document 02, W7), which runs on from the state of a paused run. `run_machine` is `go_on` from a fresh machine, so it
+-- stands last.
+use mathlib.Core.Path.{_≡_}
+use mathlib.Core.Logic.{_⊎_, _↔_}
+use Prim.Native.Nat.{ℕ, _+_, _-_, _≤_, _<_}
+use mathlib.Core.Bool.{Bool, true, _&&_}
 use mathlib.Core.List.{List}
 use lib.Dec.{eqb, leb}
 use lib.IntN.{ℤ}
@@ -15,7 +18,7 @@ use Rattle.machine.specs.Machine.{Machine, at as machine-at, fresh, run}
 use Rattle.machine.specs.Memories.{Assembly, assembly, machine-cells}
 use Rattle.machine.specs.declared.State.{State}
 
--- ---- Assembly
+-- ---- run_assembly
 
 -- Refusals: 9, 8 ("store not 64 cells"), 10, 11 ("assembly: stack above 64")
 unfoldable pub assembly-tests : List ℕ → Assembly → Answer AssemblyCode
@@ -36,7 +39,7 @@ run-assembly code m budget =
     settle (assembly-tests code m)
     (λ P. report budget (assembly-run P m budget)) (λ P. assembly-run P m budget .leaves .memory) m
 
--- ---- Machine code. The call `run-machine` stands below: it is `go-on` from a fresh machine
+-- ---- The tests of both calls on machine code
 
 -- 11: "D or n above 64, or slice length wrong": "machine memory has D + 1 + n cells"
 abbrev pub memory-fits : ℕ → ℕ → List ℤ → Bool
@@ -50,7 +53,7 @@ machine-tests code memory D n =
     unless memory-fits D n memory refuse 11 at 0 else
     gives P)
 
--- ---- Pausing, and going on
+-- ---- A run of machine code from a state, and what a call tells of it
 
 -- A state (the code's own struct, machine/src/lib.rt) is a position, a stack size, a count and a mark.
 -- "A fresh machine has position 0, stack empty, count 0"; its stack has held nothing
@@ -81,14 +84,27 @@ tell (fault e) k mark s = finished (ran (fault e) k mark)
 abbrev pub piece-told : State → ℕ → Result (Machine (List ℤ)) → Told
 piece-told s budget r = tell (r .end) (s .count + (budget - r .left)) (r .mark) (r .leaves)
 
--- 15: "a position past the end, a stack size above the depth mark, a depth mark above D, or a count that with the budget
--- passes 4294967295". The last is written as: the count is above what the budget leaves of 4294967295. So the count of a
--- fresh machine, 0, passes under every budget, those past 32 bits too; `FifteenAlone` (Pieces) has the sentence with the
--- sum
+-- ---- 15: a state that cannot go on
+
+-- "A position past the end, a stack size above the depth mark, a depth mark above D, or a count that with the budget
+-- passes 4294967295"
+abbrev pub Unfit : State → ℕ → ℕ → ℕ → Type 0
+Unfit s last D budget =
+    (last < s .position) ⊎ (s .mark < s .size) ⊎ (D < s .mark) ⊎ (4294967295 < s .count + budget)
+
+-- The test. Its last part asks that the count is at most what the budget leaves of 4294967295, so that the count 0 of a
+-- fresh machine passes under every budget, those past 32 bits too
 abbrev pub state-fits : State → ℕ → ℕ → ℕ → Bool
 state-fits s last D budget =
     leb (s .position) last && (leb (s .size) (s .mark)
     && (leb (s .mark) D && leb (s .count) (4294967295 - budget)))
+
+-- Claimed: under every budget of 32 bits a state passes the test exactly when it is not unfit in one of the four ways.
+abbrev pub FitsOrUnfit : Type 0
+FitsOrUnfit = (s : State) (last D budget : ℕ) → budget ≤ 4294967295
+    → (state-fits s last D budget ≡ true) ↔ (Unfit s last D budget → ⊥)
+
+-- ---- go_on
 
 -- Refusals: 9, 10, 11; and "15, after 11"
 unfoldable pub state-tests : List ℕ → List ℤ → ℕ → ℕ → State → ℕ → Answer MachineCode
@@ -103,7 +119,9 @@ go-on code memory D n s budget =
     settle (state-tests code memory D n s budget)
     (λ P. piece-told s budget (run-from P memory D s budget)) (λ P. run-from P memory D s budget .leaves .memory) memory
 
--- The same from a fresh machine, whose state passes 15's test under every budget
+-- ---- run_machine
+
+-- `go_on` from a fresh machine, whose state passes 15's test under every budget: so 9, 10 and 11 are its refusals
 unfoldable pub run-machine : List ℕ → List ℤ → ℕ → ℕ → ℕ → Answer Told × List ℤ
 run-machine code memory D n budget = go-on code memory D n fresh-state budget
 

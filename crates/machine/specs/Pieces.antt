@@ -1,8 +1,8 @@
 -- Runs in pieces (document 02, W7): several calls in a row, and what is claimed of pausing and going on. The proof of the
 -- same spelling stands in proofs/.
 use mathlib.Core.Path.{_≡_}
-use mathlib.Core.Logic.{_⊎_, _↔_}
-use Prim.Native.Nat.{ℕ, _+_, _≤_, _<_}
+use mathlib.Core.Logic.{_↔_}
+use Prim.Native.Nat.{ℕ, _+_, _≤_}
 use mathlib.Core.List.{List, [], _∷_}
 use lib.IntN.{ℤ}
 use lib.ListN.{length}
@@ -10,7 +10,7 @@ use Rattle.base.specs.Answers.{Answer, gives, refused, settle}
 use Rattle.base.specs.Ends.{Ran, report}
 use Rattle.record.specs.Records.{MachineCode}
 use Rattle.machine.specs.Calls.{machine-tests, fresh-state, run-from, machine-run, Told, finished, paused}
-use Rattle.machine.specs.Calls.{piece-told, state-tests, go-on, run-machine, ran-of, without-state}
+use Rattle.machine.specs.Calls.{piece-told, Unfit, state-tests, go-on, run-machine, ran-of, without-state}
 use Rattle.machine.specs.declared.State.{State}
 
 -- ---- Several calls in a row
@@ -70,13 +70,8 @@ abbrev pub HandsOut : Type 0
 HandsOut = (code : List ℕ) (memory : List ℤ) (D n : ℕ) (s : State) (budget : ℕ) (s′ : State) (memory′ : List ℤ)
     → go-on code memory D n s budget ≡ (gives (paused s′), memory′) → HandedOut code D n s budget s′ memory′
 
--- "A position past the end, a stack size above the depth mark, a depth mark above D, or a count that with the budget
--- passes 4294967295"
-abbrev pub Unfit : State → ℕ → ℕ → ℕ → Type 0
-Unfit s last D budget =
-    (last < s .position) ⊎ (s .mark < s .size) ⊎ (D < s .mark) ⊎ (4294967295 < s .count + budget)
-
--- "It refuses with 15, after 11," under one of these and no other; else the state is run.
+-- "It refuses with 15, after 11," a state that is unfit in one of the four ways (Calls: Unfit), and no other; else the
+-- state is run.
 pub record StateRefusals (code : List ℕ) (memory : List ℤ) (D n : ℕ) (s : State) (budget : ℕ) : Type 0 where
   pub after-eleven : (number place : ℕ) → machine-tests code memory D n ≡ refused number place
       → go-on code memory D n s budget ≡ (refused number place, memory)
