@@ -2,23 +2,18 @@
 -- sizes, records and rule, and a call looks at a command for nothing else.
 use mathlib.Core.Path.{_≡_, refl, ap}
 use Prim.Native.Nat.{ℕ, _*_}
-use mathlib.Core.Bool.{Bool, true, false}
 use mathlib.Core.List.{List}
 use lib.Dec.{eqb, leb}
 use lib.ListN.{length}
-use Rattle.base.specs.Answers.{gives, unless_refuse_at_else_, and-then, settle, previewed}
-use Rattle.base.specs.Ends.{report}
+use Rattle.base.specs.Answers.{gives, and-then, settle}
 use Rattle.base.proofs.Settled.{unless-same}
-use Rattle.word.specs.Sums.{sum32}
 use Rattle.text.specs.Syntax.{Command}
 use Rattle.text.specs.Reading.{read-text}
 use Rattle.text.specs.Sizes.{records, sizes}
 use Rattle.text.specs.Respelling.{Respelled}
 use Rattle.text.specs.Calls.{read-call}
 use Rattle.text.proofs.Respelling.{same-sizes}
-use Rattle.source.specs.Rules.{Store, start, result-of, run-rules}
-use Rattle.source.specs.Calls.{source-tests, run-source, preview-source}
-use Rattle.source.proofs.Respelling.{same-runs}
+use Rattle.source.proofs.Respelling.{run-same, preview-same}
 use Rattle.record.specs.Bytes.{assembly-kind, machine-kind, code-bytes, over}
 use Rattle.compile.specs.Compilation.{ccomp}
 use Rattle.compile.specs.Table.{to-m-prog, table}
@@ -26,6 +21,7 @@ use Rattle.compile.specs.Calls.{assemble-tests, assemble, compile-tests, Compil
 use Rattle.compile.proofs.Respelling.{same-records}
 use Rattle.fitting.specs.Rows.{Lent, fit, load-and-preview, AssemblyLent, assemble-and-run}
 use Rattle.fitting.specs.Rows.{BackLent, compile-and-go-back}
+use Rattle.fitting.specs.Pieces.{fit-in-pieces}
 use Rattle.fitting.specs.Respelling.{EitherSpelling}
 
 module _ (text other : List ℕ) (c d : Command) (e : read-text text ≡ gives c) (f : read-text other ≡ gives d)
@@ -40,9 +36,6 @@ module _ (text other : List ℕ) (c d : Command) (e : read-text text ≡ gives c
 
   code : ccomp c ≡ ccomp d
   code = same-records c d r
-
-  run : (store : Store) (budget : ℕ) → run-rules sum32 c budget store ≡ run-rules sum32 d budget store
-  run store budget = ap (λ rule. result-of (rule (start budget store))) (same-runs sum32 c d r)
 
   -- ---- Each call
 
@@ -71,22 +64,6 @@ module _ (text other : List ℕ) (c d : Command) (e : read-text text ≡ gives c
         },
       ))))
 
-  run-same : (store : Store) (budget : ℕ) → run-source text store budget ≡ run-source other store budget
-  unfolding run-source source-tests and-then settle
-  run-same store budget =
-      rw (e, f)
-      (unless-same (eqb (length store) 64) 8 0 _ _ store (gives c) (gives d)
-      (λ i. (gives (report budget (run store budget i)), run store budget i .leaves)))
-
-  preview-same : (store : Store) (budget : ℕ) → preview-source text store budget ≡ preview-source other store budget
-  unfolding preview-source source-tests and-then
-  preview-same store budget = rw (run-same store budget, e, f) (by (eqb (length store) 64))
-    where
-      by : (b : Bool) → previewed (unless b refuse 8 at 0 else gives c) (run-source other store budget)
-          ≡ previewed (unless b refuse 8 at 0 else gives d) (run-source other store budget)
-      by true = unfold previewed in refl
-      by false = unfold previewed in refl
-
   assembly-same : (lent : AssemblyLent) (budget : ℕ)
       → assemble-and-run text lent budget ≡ assemble-and-run other lent budget
   unfolding assemble-and-run
@@ -100,6 +77,11 @@ module _ (text other : List ℕ) (c d : Command) (e : read-text text ≡ gives c
   unfolding fit
   fit-same lent budget = rw (compile-same (record { code = lent .code; table = lent .table })) refl
 
+  fit-in-pieces-same : (lent : Lent) (b : ℕ) (bs : List ℕ)
+      → fit-in-pieces text lent b bs ≡ fit-in-pieces other lent b bs
+  unfolding fit-in-pieces
+  fit-in-pieces-same lent b bs = rw (compile-same (record { code = lent .code; table = lent .table })) refl
+
   preview-loaded-same : (lent : Lent) (budget : ℕ) → load-and-preview text lent budget ≡ load-and-preview other lent budget
   unfolding load-and-preview
   preview-loaded-same lent budget = rw (compile-same (record { code = lent .code; table = lent .table })) refl
@@ -112,6 +94,7 @@ either-spelling text other c d e f r = record {
   running = run-same text other c d e f r;
   running-assembly = assembly-same text other c d e f r;
   fitting = fit-same text other c d e f r;
+  fitting-in-pieces = fit-in-pieces-same text other c d e f r;
   previewing = preview-same text other c d e f r;
   previewing-loaded = preview-loaded-same text other c d e f r;
   going-back = back-same text other c d e f r;

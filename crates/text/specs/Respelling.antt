@@ -1,7 +1,7 @@
 -- Two spellings of a constant (document 02, W1): `13` with one byte "means the same constant as `10` with four".
--- Commands that differ in this alone, and what is claimed of them here: that both are accepted, with the same sizes. What
--- they compile to and how they run is claimed in compile, source and fitting. The proof of the same spelling stands in
--- proofs/.
+-- Commands that differ in this alone, and what is claimed of them here: that both are accepted, with the same sizes.
+-- What they compile to, how they run and what is printed for them is claimed in compile, source, fitting and print. The
+-- proof of the same spelling stands in proofs/.
 use mathlib.Core.Path.{_≡_}
 use Prim.Native.Nat.{_≤_}
 use lib.ListN.{length}
