@@ -2,9 +2,9 @@
  *
  *     host FILE
  *
- * Prints the sizes, each machine record and the table's entries in hexadecimal, and each assembly record; exit status 0.
- * A profile that is refused prints `refused`, the number, `at` and the place; exit status 1. A file that cannot be read
- * is named on standard error; exit status 2.
+ * Prints the sizes, each machine record and the table's entries in hexadecimal, and each assembly record; exit status
+ * 0. A profile that is refused prints `refused`, the number, `at` and the place; exit status 1. A file that cannot be
+ * read is named on standard error; exit status 2.
  */
 #include <stdio.h>
 

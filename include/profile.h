@@ -13,8 +13,8 @@
  *     bits 24-31  D, the depth bound of the stack       (reading and compiling)
  *     bits 32-39  n, how many variables the text names  (reading and compiling)
  *
- * A refusal's number is one of `enum profile_refusal_number`. `rt staticlib pod` makes the library, libpod.a; it links into
- * x86-64 programs.
+ * A refusal's number is one of `enum profile_refusal_number`. `rt staticlib pod` makes the library, libpod.a; it links
+ * into x86-64 programs.
  */
 #ifndef PROFILE_H
 #define PROFILE_H
@@ -57,8 +57,8 @@ enum profile_refusal_number {
     PROFILE_BAD_STATE = 15       /* a paused run's state does not fit; not given by these three calls */
 };
 
-/* A text is one command of at most PROFILE_TEXT_BYTES bytes. The first byte of each construct; v is a variable's byte, 0 to
- * 63, numbers are two's complement. A constant may have either spelling, and both compile to the same record. */
+/* A text is one command of at most PROFILE_TEXT_BYTES bytes. The first byte of each construct; v is a variable's byte,
+ * 0 to 63, numbers are two's complement. A constant may have either spelling; both compile to the same record. */
 enum profile_text_byte {
     PROFILE_SKIP = 0x00,
     PROFILE_ASSIGN = 0x01,            /* v, expression */

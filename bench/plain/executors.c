@@ -1,4 +1,4 @@
-/* Both executors in plain C: records decoded from their bytes at each step, no bounds checks on code, store or memory. */
+/* Both executors in plain C: records decoded from their bytes at each step, no bounds checks on code, store, memory. */
 #include <stdbool.h>
 #include <stddef.h>
 #include <stdint.h>

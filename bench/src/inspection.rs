@@ -76,8 +76,8 @@ fn record(first: u8, operand: i32) -> Vec<u8> {
     [vec![first], operand.to_le_bytes().to_vec()].concat()
 }
 
-/// Code that no compiler wrote, with D 2 and n 1: a value stored, over and over; comparing jumps to the end; each jumping
-/// to the one before it.
+/// Code that no compiler wrote, with D 2 and n 1: a value stored, over and over; comparing jumps to the end; each
+/// jumping to the one before it.
 fn foreign(records: usize) -> [(&'static str, Vec<u8>); 3] {
     let straight = [record(0x50, 7), record(0x53, 1)].concat().repeat(records / 2);
     let straight = [straight, record(0x54, 0).repeat(records % 2)].concat();

@@ -81,10 +81,9 @@ pub fn skipped_branch(loops: &[Text], ticks: u32) {
     for (name, text) in loops {
         let [mut proved, mut rust] = [[0; 64]; 2];
         let [mut marked, mut rust_mark] = [0; 2];
-        let times = medians([
-            &mut || marked = walk_proved(text, &mut proved, ticks),
-            &mut || rust_mark = walk_rust(text, &mut rust, ticks),
-        ]);
+        let times = medians([&mut || marked = walk_proved(text, &mut proved, ticks), &mut || {
+            rust_mark = walk_rust(text, &mut rust, ticks)
+        }]);
         assert_eq!((proved, marked), (rust, rust_mark));
         row(name, ticks, times, "");
     }

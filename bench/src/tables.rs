@@ -24,7 +24,11 @@ pub fn names(table: &[u8]) -> Result<usize, Refusal> {
         }
     }
     let lowest = if n == 64 { u64::MAX } else { (1 << n) - 1 };
-    if marks == lowest { Ok(n) } else { Err(Refusal(12, 0)) }
+    if marks == lowest {
+        Ok(n)
+    } else {
+        Err(Refusal(12, 0))
+    }
 }
 
 fn tested(table: &[u8], store: &[i32], depth: usize, memory: &[i32]) -> Result<usize, Refusal> {

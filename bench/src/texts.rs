@@ -107,11 +107,7 @@ fn counting() -> Vec<u8> {
 fn branching(constant: Spelling) -> Vec<u8> {
     let step = |v: u8, z: i32| assign(v, plus(variable(v), constant(z)));
     let reset = |v: u8| assign(v, constant(0));
-    let inner = choose(
-        not(less(variable(2), constant(7))),
-        sequence(vec![reset(2), step(3, 1)]),
-        step(2, 1),
-    );
+    let inner = choose(not(less(variable(2), constant(7))), sequence(vec![reset(2), step(3, 1)]), step(2, 1));
     let outer = choose(
         and(less(variable(1), constant(5)), not(less(variable(3), variable(1)))),
         sequence(vec![step(1, 1), inner]),

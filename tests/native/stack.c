@@ -4,8 +4,8 @@
  *
  *     stack TEXT_FILE...
  *
- * Prints the greatest use of each call over these texts, over texts at nesting 64 in each construct, and over code as long
- * as it may be; fails where it is above LIMIT, the bound that the README states.
+ * Prints the greatest use of each call over these texts, over texts at nesting 64 in each construct, and over code as
+ * long as it may be; fails where it is above LIMIT, the bound that docs/SPEED.md states.
  */
 #include <stdio.h>
 #include <stdlib.h>

@@ -1,5 +1,5 @@
-// The executor of assembly: its stack is a lent slice, bottom first, and its variables a lent store. The call tests
-// what it is given, then steps until the run ends.
+// The executor of assembly: the call `run_assembly`, its tests and its loop. The stack is a lent slice, bottom first,
+// the variables a lent store. The call tests what it is given, then steps until the run ends.
 use base::Count;
 use base::End;
 use base::Run;

@@ -1,5 +1,5 @@
--- A row goes on after a call that gives, and ends at one that declines. R is the call's definition: what it answers, and
--- what it leaves of the part of the lent things that it works on; `put` puts that part back among them.
+-- A row goes on after a call that gives, and ends at one that declines. R is the call's definition: what it answers,
+-- and what it leaves of the part of the lent things that it works on; `put` puts that part back among them.
 use mathlib.Core.Path.{_≡_, sym, ap, _∙_}
 use Prim.Native.Nat.{ℕ}
 use Rattle.base.specs.Acts.{Outcome, then′, give}

@@ -10,8 +10,8 @@ pub data End : Type 0 where
   done spent : End
   fault : Fault → End
 
--- A run's result: its end, the ticks left of the budget, its mark, "the most values that the stack held during the run",
--- and what it leaves
+-- A run's result: its end, the ticks left of the budget, its mark, "the most values that the stack held during the
+-- run", and what it leaves
 pub record Result (S : Type 0) : Type 0 where
   pub end : End
   pub left : ℕ

@@ -1,5 +1,5 @@
-// The forms in which everything above is written stand in specs/: acts one after the other, ends of runs,
-// answers of calls. Here are the types by which code gives them, and the copying of lent slices.
+// The forms that everything is written in: acts, answers and refusals, ends, counts and marks, calls in a row,
+// previews; the types by which code answers, and copying. The forms stand in specs/.
 ghost use mathlib.Core.Path.{_≡_};
 ghost use mathlib.Core.List.{_++_};
 ghost use Prim.Native.Nat.{_≤_};

@@ -1,6 +1,6 @@
--- A table that passes and machine code agree exactly when both are made of one assembly (Claims: AgreeingPairs). If they agree,
--- each address is the entry of its variable and the place from the end at which that variable is named, so going back and
--- translating again changes nothing. The other way, what the translation makes of any assembly agrees.
+-- A table that passes and machine code agree exactly when both are made of one assembly (Claims: AgreeingPairs). If
+-- they agree, each address is the entry of its variable and the place from the end at which that variable is named, so
+-- going back and translating again changes nothing. The other way, what the translation makes of any assembly agrees.
 use mathlib.Core.Path.{_≡_, refl, sym, _∙_, ap}
 use Prim.Native.Nat.{ℕ, suc, _+_, _≤_, _<_}
 use native.Mathlib.Nat.{add-zero, zero-add, suc-add, add-suc}

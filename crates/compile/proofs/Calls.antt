@@ -1,6 +1,6 @@
 -- The calls where their tests pass: what the tests give, and what each call then gives and leaves; and the other way,
--- what was found where the tests gave a command. The tests are true one after the other; what reading gives is within the
--- limits of texts.
+-- what was found where the tests gave a command. The tests are true one after the other; what reading gives is within
+-- the limits of texts.
 use mathlib.Core.Path.{_≡_, sym, _∙_, ap, ap₂}
 use mathlib.Core.Bool.{true}
 use Prim.Native.Nat.{ℕ, _*_, _≤_}

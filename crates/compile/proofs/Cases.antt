@@ -1,5 +1,6 @@
 -- The records of profile C, the addresses of profile I, the bytes of profile B, and where the calls decline, by
--- computation (Cases: Listing, ShortListing, AddressesOfI, BytesOfB, AssembleDeclines, CompileDeclines, GoBackDeclines).
+-- computation (Cases: Listing, ShortListing, AddressesOfI, BytesOfB, AssembleDeclines, CompileDeclines,
+-- GoBackDeclines).
 use mathlib.Core.Path.{refl}
 use Rattle.base.specs.Acts.{then′, give}
 use Rattle.base.specs.Answers.{and-then, settle}

@@ -1,6 +1,6 @@
--- The machine code of a command names 1 to n in order, seen from the last record backwards (Claims: Pairs). An address is a
--- variable's place from the end among those that were named, and renaming by what keeps names apart keeps the order of first
--- sights.
+-- The machine code of a command names 1 to n in order, seen from the last record backwards (Claims: Pairs). An address
+-- is a variable's place from the end among those that were named, and renaming by what keeps names apart keeps the
+-- order of first sights.
 use mathlib.Core.Path.{_≡_, refl, sym, _∙_, ap, ap₂, subst}
 use Prim.Native.Nat.{ℕ, suc, _≤_, _<_}
 use native.Mathlib.Omega.{arith}
@@ -38,8 +38,8 @@ member-map g v (x ∷ xs) apart =
     by true e first m = simp (eq-eqb (g x) (g v) (ap g (eqb-true x v e)))
     by false e first m = simp (ne-eqb (g x) (g v) (λ q. eqb-false x v e (sym (first (sym q))))) m
 
--- Names x become f x, and their numbers u become g u, which keeps the numbers that are named apart: then g makes of what the
--- records name what the renamed records name, in the same order.
+-- Names x become f x, and their numbers u become g u, which keeps the numbers that are named apart: then g makes of
+-- what the records name what the renamed records name, in the same order.
 module _ {X Y : Type 0} (number : X → ℕ) (number′ : Y → ℕ) (f : X → Y) (g : ℕ → ℕ)
     (same : (x : X) → number′ (f x) ≡ g (number x)) where
   abbrev pub Apart : List (Record X) → Type 0

@@ -1,6 +1,7 @@
 -- The table of a command holds 1 to n once each, n being the number of variables that the command names (Claims:
--- Tables, NamedVariables). How often a number stands in the table is how many variables below 64 have it as their address. The
--- variables that records name are below 64 and none stands among them twice: each takes one of the 64 and one address.
+-- Tables, NamedVariables). How often a number stands in the table is how many variables below 64 have it as their
+-- address. The variables that records name are below 64 and none stands among them twice: each takes one of the 64 and
+-- one address.
 use mathlib.Core.Path.{_≡_, refl, sym, _∙_, ap}
 use Prim.Native.Nat.{ℕ, zero, suc, _+_, _≤_, _<_}
 use native.Mathlib.Nat.{add-zero, suc-add, add-suc, zero-add}

@@ -1,7 +1,7 @@
--- What is claimed of compiled code. The proof of the same spelling stands in proofs/.
--- Compilation gives as many records as reading says and names as many variables; machine code with its table goes back
--- to the same assembly, for the definitions and for the calls; the two agree, and what it means that a table and code do; a
--- constant's width changes no record.
+-- What is claimed of compiled code. The proof of the same spelling stands in proofs/. Compilation gives as many records
+-- as reading says and names as many variables; machine code with its table goes back to the same assembly, for the
+-- definitions and for the calls; the two agree, and what it means that a table and code do; a constant's width changes
+-- no record.
 use mathlib.Core.Path.{_≡_}
 use mathlib.Core.Logic.{_↔_}
 use Prim.Native.Nat.{ℕ, _*_, _≤_}
@@ -54,8 +54,8 @@ pub record CodeHolds (c : Command) : Type 0 where
 abbrev pub Codes : Type 0
 Codes = (c : Command) → Valid c → records c ≤ 4096 → CodeHolds c
 
--- "A pairing by our compiler always passes" (document 02, W6): seen from the last record backwards, the addresses in the
--- machine code of a command are at their first sight 1, 2 and on to its n.
+-- "A pairing by our compiler always passes" (document 02, W6): seen from the last record backwards, the addresses in
+-- the machine code of a command are at their first sight 1, 2 and on to its n.
 abbrev pub Pairs : Type 0
 Pairs = (c : Command) → Valid c → agrees (to-m-prog (ccomp c)) (cells c) ≡ true
 
@@ -74,8 +74,9 @@ GoesBack = (text : List ℕ) → Bytes text → (c : Command) → read-text text
     → let left = compile text lent .1 in
     go-back (take (5 * records c) (left .code)) (left .table) out ≡ (gives (records c), assemble text out .1)
 
--- What it means that a table and machine code agree (document 02, W6): the published translation makes both of one assembly,
--- the one that they go back to. (So it is of every table with that n. Which variable has which address, only a table says.)
+-- What it means that a table and machine code agree (document 02, W6): the published translation makes both of one
+-- assembly, the one that they go back to. (So it is of every table with that n. Which variable has which address, only
+-- a table says.)
 pub record OneAssembly (t : List ℕ) (P : MachineCode) : Type 0 where
   pub same-code : to-m-prog (to-assembly t P) ≡ P
   pub same-table : table (to-assembly t P) ≡ t

@@ -1,5 +1,5 @@
--- Addresses, the table, machine code and the way back (document 01, "Records"; document 001, vars, addr-of, to-m-prog); and
--- whether a table's n and machine code agree (document 02, W6).
+-- Addresses, the table, machine code and the way back (document 01, "Records"; document 001, vars, addr-of, to-m-prog);
+-- and whether a table's n and machine code agree (document 02, W6).
 use Prim.Native.Nat.{ℕ, zero, suc, _-_}
 use mathlib.Core.Bool.{Bool, true, false, _&&_}
 use mathlib.Core.List.{List, [], _∷_, map}
@@ -77,8 +77,8 @@ is-table t = once-each t 1 (named-in t)
 
 -- ---- The test of a table's n against machine code (document 02, W6)
 
--- The published vars, of machine code: the addresses "seen from the last record backwards, .. at their first sight". The
--- one seen last stands in front
+-- The published vars, of machine code: the addresses "seen from the last record backwards, .. at their first sight".
+-- The one seen last stands in front
 abbrev pub addresses : MachineCode → List ℕ
 addresses = mentions (λ (a : Address). a .0)
 

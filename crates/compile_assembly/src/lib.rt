@@ -1,7 +1,7 @@
-// The first compiling stage: a text's assembly records, written into a lent buffer.
-// Each part's writer gets the buffer from where the part's records are to stand. Where a jump's distance is known only
-// after the records that it jumps over, these are written first, where they will stand. A test is measured first, which
-// notes the sizes (`sizes`) that its writer looks up.
+// The first compiling stage, and the call `assemble`: a text's assembly records, written into a lent buffer. Each
+// part's writer gets the buffer from where the part's records are to stand. Where a jump's distance is known only after
+// the records that it jumps over, these are written first, where they will stand. A test is measured first, which notes
+// the sizes (`sizes`) that its writer looks up.
 ghost use mathlib.Core.Path.{_≡_};
 ghost use Prim.Native.Nat.{_<_};
 ghost use lib.IntN.{negsuc};

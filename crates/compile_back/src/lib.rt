@@ -1,4 +1,4 @@
-// From machine records and their table back to assembly records.
+// The call `go_back`: from machine records and their table back to assembly records.
 use base::Count;
 use base::copy_bytes;
 use compile::TABLE_BYTES;

@@ -1,6 +1,6 @@
-// The records of expressions and conditions, written into a lent buffer.
-// Each part's writer gets the buffer from where the part's records are to stand. And's left side jumps over the right
-// side, so And's writer is told how many records And has, and looks up how many the left side has (`sizes`).
+// The records of expressions and conditions, written into a lent buffer. Each part's writer gets the buffer from where
+// the part's records are to stand. And's left side jumps over the right side, so And's writer is told how many records
+// And has, and looks up how many the left side has (`sizes`).
 ghost use mathlib.Core.Path.{_≡_};
 ghost use Prim.Native.Nat.{_+_, _<_};
 ghost use lib.ListN.{getD};

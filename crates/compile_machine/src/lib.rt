@@ -1,4 +1,4 @@
-// Compiling: a text's machine code and its table.
+// The call `compile`: a text's machine code and its table.
 ghost use mathlib.Core.Path.{_≡_};
 ghost use Rattle.base.specs.Answers.{gives, and-then};
 ghost use Rattle.text.specs.Code.{sizes-answer};

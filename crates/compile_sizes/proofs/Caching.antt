@@ -1,5 +1,5 @@
--- What is looked up in a cache of sizes is right, and the cache stays right when the size of a condition is noted that was
--- measured with some nesting left: what is read there does not depend on that (text, Same).
+-- What is looked up in a cache of sizes is right, and the cache stays right when the size of a condition is noted that
+-- was measured with some nesting left: what is read there does not depend on that (text, Same).
 use mathlib.Core.Path.{_≡_, refl, sym, ap, _∙_}
 use mathlib.Core.Bool.{Bool, true, false}
 use mathlib.Core.List.{List}

@@ -1,6 +1,6 @@
--- A cache of sizes, in 64 slots: one more than the records that a condition has under false, by the condition's position.
--- A slot has 0, or position · 65536 + size; a position's slot is its remainder by 64, so a later one may take an earlier
--- one's. Whatever stands in it is right.
+-- A cache of sizes, in 64 slots: one more than the records that a condition has under false, by the condition's
+-- position. A slot has 0, or position · 65536 + size; a position's slot is its remainder by 64, so a later one may take
+-- an earlier one's. Whatever stands in it is right.
 use mathlib.Core.Bool.{false, _&&_}
 use mathlib.Core.List.{List}
 use Prim.Native.Nat.{ℕ, _+_, _*_, _/_, _%_}

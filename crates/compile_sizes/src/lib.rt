@@ -1,6 +1,6 @@
-// How many records an expression or a condition has, as it stands in a text.
-// And's left side is asked for again when the condition is written, so measuring remembers it in a cache, `sizes`: of a
-// condition's position one more than the records that it has under false.
+// How many records an expression or a condition has, as it stands in a text. And's left side is asked for again when
+// the condition is written, so measuring remembers it in a cache, `sizes`: of a condition's position one more than the
+// records that it has under false.
 ghost use Prim.Native.Nat.{ℕ, _+_, _≤_};
 ghost use mathlib.Core.Path.{_≡_};
 ghost use mathlib.Core.Bool.{false, Bool·beq};

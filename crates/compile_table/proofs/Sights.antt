@@ -1,6 +1,6 @@
--- Addresses at their first sight, from the last record backwards. While they are 1, 2 and on, an address was seen before
--- exactly when it is not above how many were seen; so each record is told by one comparison. Where one of them is out of
--- order, so are those of all the records.
+-- Addresses at their first sight, from the last record backwards. While they are 1, 2 and on, an address was seen
+-- before exactly when it is not above how many were seen; so each record is told by one comparison. Where one of them
+-- is out of order, so are those of all the records.
 use mathlib.Core.Path.{_≡_, refl, sym, ap, _∙_, subst}
 use mathlib.Core.Bool.{Bool, true, false, _||_, _&&_}
 use mathlib.Core.List.{List, [], _∷_}

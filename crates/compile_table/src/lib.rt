@@ -112,8 +112,8 @@ fn address_at(code: &[u8], i: usize) -> Address
     Address(0)
 }
 
-// Whether the addresses in machine code, at their first sight from the last record backwards, are 1, 2 and on to n. While
-// they are in order, those seen are 1 to `seen`.
+// Whether the addresses in machine code, at their first sight from the last record backwards, are 1, 2 and on to n.
+// While they are in order, those seen are 1 to `seen`.
 pub fn agrees(code: &[u8], count: usize, n: usize) -> bool
     requires { ⌜ Passed (now code) count n ⌝ }
     ensures { λ r. ⌜ ((x : Passed (now (code .entry)) count n) → r ≡ Table.agrees (x .records) n) ⌝ }

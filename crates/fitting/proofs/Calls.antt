@@ -1,5 +1,5 @@
--- What the tests of a table and a store say; and the preview of a loaded machine: what its tests say, one after the other, and
--- what it comes to where they are passed.
+-- What the tests of a table and a store say; and the preview of a loaded machine: what its tests say, one after the
+-- other, and what it comes to where they are passed.
 use mathlib.Core.Path.{_≡_, refl, sym, _∙_, ap}
 use Prim.Native.Nat.{ℕ, _+_, _≤_}
 use native.Mathlib.Omega.{arith}

@@ -1,5 +1,6 @@
--- Profiles A to K hold of the definitions, the calls decline, B is previewed and pairs are run, by computation (Cases: MemoryOfI,
--- Profiles, LoadDeclines, ReadBackDeclines, PreviewsOfB, PreviewDeclines, PairedEnds, PairedOfB, PairedDeclines).
+-- Profiles A to K hold of the definitions, the calls decline, B is previewed and pairs are run, by computation (Cases:
+-- MemoryOfI, Profiles, LoadDeclines, ReadBackDeclines, PreviewsOfB, PreviewDeclines, PairedEnds, PairedOfB,
+-- PairedDeclines).
 use mathlib.Core.Path.{refl}
 use Rattle.base.specs.Acts.{then′, give}
 use Rattle.base.specs.Answers.{and-then, settle, previewed}

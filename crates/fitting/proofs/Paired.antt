@@ -1,6 +1,6 @@
--- `run_paired` (Paired: AnyMemory, PairedRefusals, PassingPairs, PairingsPass, PairedFitted): what its tests say, one after the
--- other; where they are passed, it is the row of three calls (Rows); what `compile` wrote passes them, and is then run as the
--- four calls run it (Rows, Memories).
+-- `run_paired` (Paired: AnyMemory, PairedRefusals, PassingPairs, PairingsPass, PairedFitted): what its tests say, one
+-- after the other; where they are passed, it is the row of three calls (Rows); what `compile` wrote passes them, and is
+-- then run as the four calls run it (Rows, Memories).
 use mathlib.Core.Path.{_≡_, refl, sym, _∙_, ap, ap₂}
 use Prim.Native.Nat.{ℕ, _+_, _*_, _%_, _≤_}
 use native.Mathlib.Decide.{ℕ-discrete}

@@ -1,5 +1,5 @@
--- Previews (Previews: SourcePreviewed, MachinePreviewed, PreviewsFitted): each call's law (Calls), in both directions; and
--- the row that ends with a preview comes to what the four calls come to (Rows).
+-- Previews (Previews: SourcePreviewed, MachinePreviewed, PreviewsFitted): each call's law (Calls), in both directions;
+-- and the row that ends with a preview comes to what the four calls come to (Rows).
 use mathlib.Core.Path.{_≡_, refl, sym, _∙_, ap}
 use Prim.Native.Nat.{ℕ}
 use mathlib.Core.List.{List}

@@ -1,6 +1,7 @@
--- The last three of the four calls in a row, of what passes their tests: none declines (`three-calls`). So it is of all four, of
--- a command within the limits and buffers of the right lengths: what they give and leave is the run of the machine code on
--- the loaded memory, read back. A preview in place of the last two gives the same, and leaves the memory as it was loaded.
+-- The last three of the four calls in a row, of what passes their tests: none declines (`three-calls`). So it is of all
+-- four, of a command within the limits and buffers of the right lengths: what they give and leave is the run of the
+-- machine code on the loaded memory, read back. A preview in place of the last two gives the same, and leaves the
+-- memory as it was loaded.
 use mathlib.Core.Path.{_≡_, refl, sym, _∙_, ap}
 use Prim.Native.Nat.{ℕ, _+_, _*_, _≤_}
 use native.Mathlib.Omega.{arith}

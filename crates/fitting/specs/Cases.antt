@@ -196,8 +196,8 @@ pub record ReadBackDeclines : Type 0 where
 abbrev pub preview-B : ℤ → ℕ → Answer Ran × Store
 preview-B x budget = preview-machine B·machine (loaded B·table 2 2 (replicate 64 x)) 2 B·table (sevens 64) budget
 
--- Loaded from sevens, under budget 3 and 4: the store so far, and the run's own at its end; loaded from eights, x0 and x1
--- come from the memory, and the other variables from the store.
+-- Loaded from sevens, under budget 3 and 4: the store so far, and the run's own at its end; loaded from eights, x0 and
+-- x1 come from the memory, and the other variables from the store.
 abbrev pub PreviewsOfB : Type 0
 PreviewsOfB = preview-B (pos 7) 3 ∷ preview-B (pos 7) 4 ∷ preview-B (pos 8) 4 ∷ []
     ≡ (gives (ran spent 3 2), sevens 64) ∷ (gives (ran done 4 2), pos 12 ∷ sevens 63)

@@ -1,7 +1,7 @@
 -- Demand 3. For every accepted text, every starting store and every budget, the four calls in a row give the end, the
--- count, the mark and the store that the source rules give under that budget; none of the four declines; the end is done,
--- spent or out of range, never short, full or astray; and neither the stack nor the mark passes D.
--- The proof of the same spelling stands in proofs/.
+-- count, the mark and the store that the source rules give under that budget; none of the four declines; the end is
+-- done, spent or out of range, never short, full or astray; and neither the stack nor the mark passes D. The proof of
+-- the same spelling stands in proofs/.
 use mathlib.Core.Path.{_≡_}
 use mathlib.Core.Logic.{_⊎_, _↔_}
 use Prim.Native.Nat.{ℕ, _+_, _*_, _≤_}
@@ -60,8 +60,8 @@ pub record Alike (text : List ℕ) (c : Command) (lent : Compiled) (memory : Lis
       ⊎ ((mark : ℕ) × (t : Store) × MachineEnds text lent memory store budget End.spent budget mark t
       × RulesEnd text store budget End.spent budget mark t)
   -- "its stack never passes the depth D worked out from the text": after any number of steps. Any code stays at D or
-  -- below, since a push at D would end full (machine/specs/Machine, push); what this code adds is `one-of-three`: no run of
-  -- it ends full, so no push at D is ever tried
+  -- below, since a push at D would end full (machine/specs/Machine, push); what this code adds is `one-of-three`: no
+  -- run of it ends full, so no push at D is ever tried
   pub stack : (steps : ℕ)
       → machine-run (to-m-prog (ccomp c)) (loaded (table (ccomp c)) (depth c) (cells c) store) (depth c) steps
       .leaves .size ≤ depth c
@@ -90,8 +90,9 @@ AssemblyFitted = (text : List ℕ) → Bytes text → (c : Command) → read-tex
     → let r = run-assembly (code-bytes assembly-kind (ccomp c)) m budget in
     run-source text (m .store) budget ≡ (r .0, r .1 .store)
 
--- The three executors on one text, from the same store under the same budget: assembly on a stack of D cells, the machine
--- by the four calls. They tell the same end, count and mark and leave the same store, and the mark is D at most.
+-- The three executors on one text, from the same store under the same budget: assembly on a stack of D cells, the
+-- machine by the four calls. They tell the same end, count and mark and leave the same store, and the mark is D at
+-- most.
 pub record ThreeAlike (text : List ℕ) (c : Command) (lent : Compiled) (memory : List ℤ) (m : Assembly) (budget : ℕ)
     : Type 0 where
   pub tell : Ran
@@ -102,8 +103,8 @@ pub record ThreeAlike (text : List ℕ) (c : Command) (lent : Compiled) (memory 
   pub by-machine : four-calls text lent memory (m .store) budget ≡ gives (tell, leave)
   pub never-above : tell .mark ≤ depth c
 
--- "For compiled profiles with their own D, from the same store under the same budget, [the mark] agrees among the three,
--- and it is never above D" (document 02, W2).
+-- "For compiled profiles with their own D, from the same store under the same budget, [the mark] agrees among the
+-- three, and it is never above D" (document 02, W2).
 abbrev pub OneMark : Type 0
 OneMark = (text : List ℕ) → Bytes text → (c : Command) → read-text text ≡ gives c
     → (lent : Compiled) (memory : List ℤ) (m : Assembly) → Ready c lent memory (m .store)

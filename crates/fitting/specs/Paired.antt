@@ -1,5 +1,5 @@
--- The call `run_paired` (document 02, W6): code and a table tested against each other, and then loading, running and reading
--- back in one call. What is claimed of it stands below; the proof of the same spelling stands in proofs/.
+-- The call `run_paired` (document 02, W6): code and a table tested against each other, and then loading, running and
+-- reading back in one call. What is claimed of it stands below; the proof of the same spelling stands in proofs/.
 use mathlib.Core.Path.{_≡_}
 use mathlib.Core.Logic.{_↔_}
 use Prim.Native.Nat.{ℕ, _+_, _*_}
@@ -26,8 +26,8 @@ use Rattle.fitting.specs.Rows.{Lent, buffers, load-run-read}
 
 -- ---- The call
 
--- Whole records with the n of their table: 10; 14, "after 12 and 10 and before 11, when they disagree"; 11, where D is above
--- 64. The record count, D and n
+-- Whole records with the n of their table: 10; 14, "after 12 and 10 and before 11, when they disagree"; 11, where D is
+-- above 64. The record count, D and n
 abbrev pub pair-tests : List ℕ → ℕ → ℕ → Answer Sizes
 pair-tests code n D =
     and-then (records-of (machine-kind n) code) (λ P.
@@ -46,8 +46,8 @@ paired-tests code t store D =
 abbrev pub testing : ℕ → Row Lent Sizes
 testing D l = call (paired-tests (l .code) (l .table) (l .store) D) l
 
--- "Loads, runs and reads back", whatever the run's end, on a memory of its own, D + 1 + n cells. The end, the count and the
--- mark; the store as it is left
+-- "Loads, runs and reads back", whatever the run's end, on a memory of its own, D + 1 + n cells. The end, the count and
+-- the mark; the store as it is left
 unfoldable pub run-paired : List ℕ → List ℕ → Store → ℕ → ℕ → Answer Ran × Store
 run-paired code t store D budget =
     let own = replicate (D + 1 + named-in t) (pos 0) in
@@ -56,9 +56,10 @@ run-paired code t store D budget =
 
 -- ---- What is claimed of it
 
--- What the memory holds makes no difference: once the tests are passed, it gives and leaves what `load`, `run_machine` and
--- `read_back` in a row give and leave on any memory of D + 1 + n cells; and none of the three declines.
-pub record OnAnyMemory (code t : List ℕ) (store : Store) (D : ℕ) (z : Sizes) (budget : ℕ) (memory : List ℤ) : Type 0 where
+-- What the memory holds makes no difference: once the tests are passed, it gives and leaves what `load`, `run_machine`
+-- and `read_back` in a row give and leave on any memory of D + 1 + n cells; and none of the three declines.
+pub record OnAnyMemory (code t : List ℕ) (store : Store) (D : ℕ) (z : Sizes) (budget : ℕ) (memory : List ℤ)
+    : Type 0 where
   pub tell : Ran
   pub leave : Lent
   pub in-a-row : answered (load-run-read z budget (buffers code t memory store)) ≡ (gives tell, leave)
@@ -75,7 +76,8 @@ PairedRefusals = (code t : List ℕ) (store s : Store) (D budget number place : 
     → (run-paired code t store D budget ≡ (refused number place, s))
     ↔ ((paired-tests code t store D ≡ refused number place) × (s ≡ store))
 
--- What passes the tests is what the published translation makes of one assembly, the one that code and table go back to.
+-- What passes the tests is what the published translation makes of one assembly, the one that code and table go back
+-- to.
 abbrev pub PassingPairs : Type 0
 PassingPairs = (code t : List ℕ) (store : Store) (D : ℕ) (z : Sizes) → paired-tests code t store D ≡ gives z
     → (P : MachineCode) × (records-of (machine-kind (z .cells)) code ≡ gives P) × OneAssembly t P
@@ -96,8 +98,8 @@ abbrev pub PairingsPass : Type 0
 PairingsPass = (text code t : List ℕ) (D : ℕ) (pair : ByCompiler text code t D) (store : Store) → length store ≡ 64
     → paired-tests code t store D ≡ gives (pair .sizes)
 
--- Demand 3 in one call: on what `compile` wrote of a text it gives what the source run of that text gives, and leaves the
--- same 64 cells, from every store, under every budget. (With a store of another length both decline with 8.)
+-- Demand 3 in one call: on what `compile` wrote of a text it gives what the source run of that text gives, and leaves
+-- the same 64 cells, from every store, under every budget. (With a store of another length both decline with 8.)
 abbrev pub PairedFitted : Type 0
 PairedFitted = (text code t : List ℕ) (D : ℕ) → ByCompiler text code t D → (store : Store) (budget : ℕ)
     → run-paired code t store D budget ≡ run-source text store budget

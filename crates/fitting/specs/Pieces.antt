@@ -1,5 +1,5 @@
--- Demand 3 in pieces (document 02, W7): the four calls in a row, of which the third is made in pieces, each with its own
--- budget. The proof of the same spelling stands in proofs/.
+-- Demand 3 in pieces (document 02, W7): the four calls in a row, of which the third is made in pieces, each with its
+-- own budget. The proof of the same spelling stands in proofs/.
 use mathlib.Core.Path.{_≡_}
 use Prim.Native.Nat.{ℕ, _*_, _≤_}
 use mathlib.Core.List.{List}

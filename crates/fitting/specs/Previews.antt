@@ -1,5 +1,5 @@
--- Previews (document 02, W3): they equal "what the run would have left on a copy", and demand 3 holds for them. The proof
--- of the same spelling stands in proofs/.
+-- Previews (document 02, W3): they equal "what the run would have left on a copy", and demand 3 holds for them. The
+-- proof of the same spelling stands in proofs/.
 use mathlib.Core.Path.{_≡_}
 use mathlib.Core.Logic.{_↔_}
 use Prim.Native.Nat.{ℕ}
@@ -26,8 +26,8 @@ abbrev pub SourcePreviewed : Type 0
 SourcePreviewed = (text : List ℕ) (store : Store) (budget : ℕ) (ran : Ran) (s : Store)
     → (preview-source text store budget ≡ (gives ran, s)) ↔ (run-source text store budget ≡ (gives ran, s))
 
--- A machine's preview gives a run and a store exactly when `run_machine`, with the table's n, gives that run and leaves a
--- memory from which `read_back`, over the store, gives n and leaves that store.
+-- A machine's preview gives a run and a store exactly when `run_machine`, with the table's n, gives that run and leaves
+-- a memory from which `read_back`, over the store, gives n and leaves that store.
 abbrev pub MachinePreviewed : Type 0
 MachinePreviewed = (code : List ℕ) (memory : List ℤ) (D : ℕ) (t : List ℕ) (store : Store) (budget : ℕ)
     (ran : Ran) (s : Store)
@@ -36,8 +36,8 @@ MachinePreviewed = (code : List ℕ) (memory : List ℤ) (D : ℕ) (t : List ℕ
     × (read-back-call t m D store ≡ (gives (named-in t), s)))
 
 -- The two previews of one text, the machine's after compiling and loading, from the same store under the same budget:
--- they tell the same end, count and mark and give the same store, which are those of the run itself; the lent store stays,
--- and the memory is as loading left it.
+-- they tell the same end, count and mark and give the same store, which are those of the run itself; the lent store
+-- stays, and the memory is as loading left it.
 pub record PreviewsAlike (text : List ℕ) (c : Command) (l : Lent) (budget : ℕ) : Type 0 where
   pub tell : Ran
   pub leave : Store

@@ -1,6 +1,6 @@
--- Calls in a row (document 01, "Executors"), with every lent buffer as it is left: demand 3's four calls, the preview of
--- what was compiled and loaded (document 02, W3), and two rows of two calls. A call that declines ends the row; what the
--- calls before it wrote stays.
+-- Calls in a row (document 01, "Executors"), with every lent buffer as it is left: demand 3's four calls, the preview
+-- of what was compiled and loaded (document 02, W3), and two rows of two calls. A call that declines ends the row; what
+-- the calls before it wrote stays.
 use Prim.Native.Nat.{ℕ, _*_}
 use mathlib.Core.List.{List}
 use lib.IntN.{ℤ}

@@ -1,6 +1,6 @@
 -- Simulation: on any lawful memory and under any rule for sums, the records of a command do what the source rules say.
--- At every budget the end, the ticks left, the mark and the store are the same. Assembly and the pod machine are two such
--- memories. The proof of the same spelling stands in proofs/.
+-- At every budget the end, the ticks left, the mark and the store are the same. Assembly and the pod machine are two
+-- such memories. The proof of the same spelling stands in proofs/.
 use mathlib.Core.Path.{_≡_}
 use Prim.Native.Nat.{ℕ, _≤_, _<_}
 use mathlib.Core.Option.{some}

@@ -1,1 +1,2 @@
-// Loading, running and reading back, calls in a row: the definitions and demand 3 stand in specs/.
+// Loading and reading back, calls in a row, code and its table in one call, the simulation, demand 3. These stand in
+// specs/.

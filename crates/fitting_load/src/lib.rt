@@ -1,4 +1,4 @@
-// Loading a store into the machine's memory, and reading it back.
+// The calls `load` and `read_back`: a store into the machine's memory, and back.
 use base::Count;
 use base::VARIABLES;
 use compile_table::Named;

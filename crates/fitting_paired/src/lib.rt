@@ -1,5 +1,5 @@
-// Machine code and its table in one call: the pair is tested, the store loaded into a memory of the call's own, the code run
-// from a fresh machine, and the store read back.
+// The call `run_paired`: code and its table are tested against each other, the store loaded, the code run, the store
+// read back. The memory is the call's own, and the machine fresh.
 use base::Count;
 use base::Run;
 use machine_step::Machine;
@@ -76,9 +76,10 @@ fn load_run_read(
     run
 }
 
-// Tests that the table's n and the addresses in the code agree, loads the store into a memory of its own, runs the code from
-// a fresh machine with D = `depth`, and reads back into the store, whatever the end. Refuses 9, 8, 12, 10, 14, 11 (D above
-// 64). Given what compile wrote of a text and the D that it gave, the answer and the store are those of run_source (demand 3).
+// Tests that the table's n and the addresses in the code agree, loads the store into a memory of its own, runs the code
+// from a fresh machine with D = `depth`, and reads back into the store, whatever the end. Refuses 9, 8, 12, 10, 14, 11
+// (D above 64). Given what compile wrote of a text and the D that it gave, the answer and the store are those of
+// run_source (demand 3).
 pub fn run_paired(code: &[u8], table: &[u8], store: &mut [i32], depth: u64, budget: u32) -> Run
     ensures { λ r. ⌜ (run-answer r, now (store .exit))
         ≡ run-paired (now (code .entry)) (now (table .entry)) (now (store .entry)) depth budget ⌝ }

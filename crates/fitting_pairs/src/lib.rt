@@ -1,4 +1,4 @@
-// Two calls in a row on lent buffers, with what the claims say of them.
+// Two rows of two calls on lent buffers, with what the claims say of them.
 use base::Count;
 use base::Run;
 use record::RECORD_BYTES;

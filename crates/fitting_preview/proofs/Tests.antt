@@ -1,4 +1,5 @@
--- The preview's tests: the answer to which each of the code's tests leads, and what holds where it is a number of records.
+-- The preview's tests: the answer to which each of the code's tests leads, and what holds where it is a number of
+-- records.
 use mathlib.Core.Path.{_≡_, refl, ap, _∙_}
 use Prim.Native.Nat.{ℕ, _≤_}
 use native.Mathlib.Omega.{arith}

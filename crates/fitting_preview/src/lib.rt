@@ -1,4 +1,4 @@
-// The preview of a loaded machine: the run on a copy of its memory, read back over a copy of the store.
+// The call `preview_machine`: a loaded machine's run on a copy of its memory, read back over a copy of the store.
 use base::Count;
 use base::Preview;
 use base::Run;

@@ -1,5 +1,5 @@
--- Compiled code has heights (Claims: CommandsPass). The idea: where compiled code jumps, and where it lands, the stack is
--- empty; so the height at a position is what the records before it come to, each stepped on from the one before it.
+-- Compiled code has heights (Claims: CommandsPass). The idea: where compiled code jumps, and where it lands, the stack
+-- is empty; so the height at a position is what the records before it come to, each stepped on from the one before it.
 use mathlib.Core.Path.{_≡_, refl, sym, _∙_, ap, subst}
 use Prim.Native.Nat.{ℕ, zero, suc, _+_, _-_, _≤_, _<_}
 use native.Mathlib.Omega.{arith}

@@ -1,2 +1,2 @@
-// The inspection's definitions and claims stand in specs/, their proofs in proofs/; the code is inspection_visit's and
-// inspection_search's.
+// Heights of the stack at the positions of code, the call that inspects, and what is claimed of them. These stand in
+// specs/.

@@ -1,5 +1,5 @@
-// The inspection of machine code. The positions that can be reached are found one after the other, each with its
-// height, and each is looked at once.
+// The call `inspect`, its tests and its search. The positions that can be reached are found one after the other, each
+// with its height, and each is looked at once.
 use base::Count;
 use inspection_visit::Finds;
 use machine_step::Machine;

@@ -1,5 +1,5 @@
-// One position of the inspection: what its record comes to at its height, and which positions are found by it.
-// A position that was found has a label, one more than its height; 0 is no label. `order` lists the positions in the
+// One position of the inspection: what its record comes to at its height, and which positions are found by it. A
+// position that was found has a label, one more than its height; 0 is no label. `order` lists the positions in the
 // order in which they were found.
 use word::Target;
 ghost use mathlib.Core.Path.{_≡_};
@@ -10,16 +10,16 @@ ghost use Rattle.word.specs.Targets.{target};
 ghost use Rattle.inspection_visit.specs.Records.{Known, checked-at};
 ghost use Rattle.inspection_visit.specs.Positions.{Room, Within, Followed, Place, Visited};
 
-// What each record takes off the stack, and what it then pushes, by its number, LOADI's 0 to JMPGE's 6. Those before JMP
-// lead on, those after it either way.
+// What each record takes off the stack, and what it then pushes, by its number, LOADI's 0 to JMPGE's 6. Those before
+// JMP lead on, those after it either way.
 const TAKES: [usize; 7] = [0, 0, 2, 1, 0, 2, 2];
 
 const PUTS: [usize; 7] = [1, 1, 1, 0, 0, 0, 0];
 
 const JMP: usize = (record::MJMP - record::MLOADI) as usize;
 
-// What a record comes to at a height: the height that it leaves and where it leads, one way or two; or that it takes more
-// than the height or pushes past D.
+// What a record comes to at a height: the height that it leaves and where it leads, one way or two; or that it takes
+// more than the height or pushes past D.
 pub enum Checked {
     Leads {
         after: usize,

@@ -1,5 +1,5 @@
--- Pausing and going on (Pieces: Pieces, PiecesFrom, GoesOn, HandsOut, FifteenAlone). The idea: a run with a + b ticks is a
--- run with a ticks, gone on with b where those were spent (`cut`); the state that is handed out stands within its
+-- Pausing and going on (Pieces: Pieces, PiecesFrom, GoesOn, HandsOut, FifteenAlone). The idea: a run with a + b ticks
+-- is a run with a ticks, gone on with b where those were spent (`cut`); the state that is handed out stands within its
 -- bounds (`inside`), so the next call takes it.
 use mathlib.Core.Path.{_≡_, refl, sym, _∙_, ap}
 use mathlib.Core.Logic.{inl, inr}

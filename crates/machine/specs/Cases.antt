@@ -15,7 +15,8 @@ use Rattle.record.specs.declared.Variable.{Variable}
 use Rattle.record.specs.declared.Address.{Address}
 use Rattle.machine.specs.Machine.{Machine, fresh, run}
 use Rattle.machine.specs.Memories.{Assembly, assembly, machine-cells}
-use Rattle.machine.specs.Calls.{run-assembly, fresh-state, Told, finished, paused, go-on, run-machine, without-state}
+use Rattle.machine.specs.Calls.{run-assembly, fresh-state, Told, finished, paused, go-on, run-machine}
+use Rattle.machine.specs.Calls.{without-state}
 use Rattle.machine.specs.Pieces.{in-pieces}
 use Rattle.machine.specs.declared.State.{State}
 
@@ -31,8 +32,8 @@ pub record Row (Name : Type 0) : Type 0 where
 abbrev pub row : {Name : Type 0} → List (Record Name) → ℕ → ℕ → End → ℕ → ℕ → Row Name
 row P D b e k mark = record { code = P; depth = D; budget = b; end = e; count = k; mark = mark }
 
--- "Position equal to the number of records is done, before the budget is looked at; then spent; then short; full; out of
--- range; astray"; a comparing jump that isn't taken may have any operand
+-- "Position equal to the number of records is done, before the budget is looked at; then spent; then short; full; out
+-- of range; astray"; a comparing jump that isn't taken may have any operand
 unfoldable pub rows : (Name : Type 0) → List (Row Name)
 rows Name =
     row [] 0 0 done 0 0

@@ -34,8 +34,8 @@ module _ {M Name : Type 0} (sum : SumRule) (D : ℕ) (o : Memory M Name) (code :
   abbrev pub Counted : Type 0
   Counted = (n mark : ℕ) (s : Machine M) → let r = run sum D o code n mark s in Made n s (r .end) (r .left) (r .leaves)
 
-  -- `Most n mark s high`: on the way from s with n ticks `high` is the most, the mark before counted too: no machine that
-  -- steps lead to has more values on its stack, and one of them has so many, or the mark was so high before
+  -- `Most n mark s high`: on the way from s with n ticks `high` is the most, the mark before counted too: no machine
+  -- that steps lead to has more values on its stack, and one of them has so many, or the mark was so high before
   pub record Most (n mark : ℕ) (s : Machine M) (high : ℕ) : Type 0 where
     pub kept : mark ≤ high
     pub no-more : (n′ : ℕ) (s′ : Machine M) → Walk n n′ s s′ → s′ .size ≤ high

@@ -1,5 +1,5 @@
--- The stack machine, once for both memories (document 01, "Executors"; document 001, iexec and m-iexec), and the mark of
--- its runs (document 02, W2).
+-- The stack machine, once for both memories (document 01, "Executors"; document 001, iexec and m-iexec), and the mark
+-- of its runs (document 02, W2).
 use Prim.Native.Nat.{ℕ, zero, suc, max}
 use mathlib.Core.List.{List}
 use mathlib.Core.Option.{Option, none, some}
@@ -39,8 +39,8 @@ fresh m = at 0 0 m
 
 -- ---- One step
 
--- What a record does on a machine with D stack slots whose code ends at position `last`. "The last four [ends] count the
--- record and change nothing else": a fault hands on no machine
+-- What a record does on a machine with D stack slots whose code ends at position `last`. "The last four [ends] count
+-- the record and change nothing else": a fault hands on no machine
 module _ {M Name : Type 0} (sum : ℤ → ℤ → Sum) (D : ℕ) (o : Memory M Name) (last : ℕ) where
   abbrev pub Step : Type 0 → Type 0
   Step A = Act (Machine M) Fault A

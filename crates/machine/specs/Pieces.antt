@@ -1,5 +1,5 @@
--- Runs in pieces (document 02, W7): several calls in a row, and what is claimed of pausing and going on. The proof of the
--- same spelling stands in proofs/.
+-- Runs in pieces (document 02, W7): several calls in a row, and what is claimed of pausing and going on. The proof of
+-- the same spelling stands in proofs/.
 use mathlib.Core.Path.{_≡_}
 use mathlib.Core.Logic.{_↔_}
 use Prim.Native.Nat.{ℕ, _+_, _≤_}
@@ -35,9 +35,9 @@ total b (b′ ∷ bs) = b + total b′ bs
 
 -- ---- What is claimed
 
--- "For every list of one or more budgets whose total fits 32 bits, from a loaded machine, the last answer and memory are
--- those of one run with the total": whatever the memory holds and whatever the code. (The first piece is `run_machine`,
--- which is `go_on` from a fresh machine.)
+-- "For every list of one or more budgets whose total fits 32 bits, from a loaded machine, the last answer and memory
+-- are those of one run with the total": whatever the memory holds and whatever the code. (The first piece is
+-- `run_machine`, which is `go_on` from a fresh machine.)
 abbrev pub Pieces : Type 0
 Pieces = (code : List ℕ) (memory : List ℤ) (D n b : ℕ) (bs : List ℕ) → total b bs ≤ 4294967295
     → in-pieces code memory D n fresh-state b bs ≡ run-machine code memory D n (total b bs)
@@ -59,8 +59,8 @@ abbrev pub GoesOn : Type 0
 GoesOn = (code : List ℕ) (memory : List ℤ) (D n : ℕ) (s : State) (budget : ℕ) (p : Told) (memory′ : List ℤ)
     → go-on code memory D n s budget ≡ (gives p, memory′) → Onward s D budget (ran-of p)
 
--- What a pause hands out: its count is the one at which the budget was spent; and with the memory that was left the state
--- passes the tests under every budget that its count leaves of 4294967295.
+-- What a pause hands out: its count is the one at which the budget was spent; and with the memory that was left the
+-- state passes the tests under every budget that its count leaves of 4294967295.
 pub record HandedOut (code : List ℕ) (D n : ℕ) (s : State) (budget : ℕ) (s′ : State) (memory′ : List ℤ) : Type 0 where
   pub all-spent : s′ .count ≡ s .count + budget
   pub passes : (more : ℕ) → s′ .count + more ≤ 4294967295

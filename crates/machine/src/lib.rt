@@ -1,6 +1,5 @@
-// The stack machine's definitions and claims stand in specs/, their proofs in proofs/; the executors' code is
-// machine_step's, machine_run's and assembly_run's. Here are the state of a paused run, and the answer of a call that runs
-// machine code.
+// The stack machine over any memory, the calls that run it, and what is claimed of runs and of runs in pieces. These
+// stand in specs/. Here are the state of a paused run, and the answer of a call that runs machine code.
 use base::End;
 use base::Refusal;
 use base::Run;
@@ -9,8 +8,8 @@ ghost use Rattle.base.specs.Code.{run-answer};
 ghost use Rattle.machine.specs.Calls.{fresh-state, answer-without-state};
 ghost use Rattle.machine.specs.Code.{piece-answer};
 
-// What a spent run hands out, and a later call takes: the position of the record due, the number of values on the stack,
-// the records counted, and the mark, the most values that there were.
+// What a spent run hands out, and a later call takes: the position of the record due, the number of values on the
+// stack, the records counted, and the mark, the most values that there were.
 pub struct State {
     pub position: usize,
     pub size: usize,

@@ -1,5 +1,6 @@
-// The executor of machine code: its stack and its variables are cells of one lent slice. A call tests what it is given,
-// then steps until the run ends, from a fresh machine or from the state of a paused run.
+// The executor of machine code: the calls `run_machine` and `go_on`, their tests and their loop. The stack and the
+// variables are cells of one lent slice. A call tests what it is given, then steps until the run ends, from a fresh
+// machine or from the state of a paused run.
 use base::Count;
 use base::End;
 use base::Run;
@@ -153,9 +154,9 @@ pub fn run_tested(code: &[u8], memory: &mut [i32], depth: usize, last: usize, bu
     run_from(code, memory, depth, last, State::fresh(), budget).without_state()
 }
 
-// Runs machine code on from the state of a paused run, over the memory as that run left it, with D = `depth` stack cells
-// and n = `cells` addresses; the budget counts from the pause. A state that is made up and fits is run as well. Refuses 9,
-// 10, 11, 15, and then leaves the memory untouched.
+// Runs machine code on from the state of a paused run, over the memory as that run left it, with D = `depth` stack
+// cells and n = `cells` addresses; the budget counts from the pause. A state that is made up and fits is run as well.
+// Refuses 9, 10, 11, 15, and then leaves the memory untouched.
 pub fn go_on(
     code: &[u8],
     memory: &mut [i32],

@@ -1,5 +1,6 @@
--- The numbers that the exported calls answer are within their bits (Claims: NothingCut). Going back: code of whole records has at most 4,096 of them, and
--- a refusal's place is 0 or one of these. Compiling: its sizes are reading's, and so are its refusals but for 8 and 7.
+-- The numbers that the exported calls answer are within their bits (Claims: NothingCut). Going back: code of whole
+-- records has at most 4,096 of them, and a refusal's place is 0 or one of these. Compiling: its sizes are reading's,
+-- and so are its refusals but for 8 and 7.
 use mathlib.Core.Path.{_≡_, refl}
 use Prim.Native.Nat.{ℕ, _*_, _%_, _≤_}
 use native.Mathlib.Omega.{arith}

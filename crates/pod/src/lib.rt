@@ -1,4 +1,4 @@
-// The pod: what its C host calls, with numbers and byte buffers only. An answer is one number, packed as Packing says.
+// What the pod's C host calls, with numbers and byte buffers only. An answer is one number, packed as Packing says.
 ghost use mathlib.Core.Path.{_≡_};
 ghost use Rattle.text.specs.Calls.{read-call};
 ghost use Rattle.compile.specs.Calls.{compile, go-back};

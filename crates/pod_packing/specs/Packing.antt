@@ -1,6 +1,7 @@
--- The answers of calls as one number, for a host that takes numbers (document 01, "Executors": "calls reading, compiling and
--- going back with numbers and byte buffers only"), and for tests in other languages. Bits 0 to 7: a refusal's number, 0
--- where there is none. A number is cut off at its bits; none that the host is handed is that large (pod/specs/Claims).
+-- The answers of calls as one number, for a host that takes numbers (document 01, "Executors": "calls reading,
+-- compiling and going back with numbers and byte buffers only"), and for tests in other languages. Bits 0 to 7: a
+-- refusal's number, 0 where there is none. A number is cut off at its bits; none that the host is handed is that large
+-- (pod/specs/Claims).
 use Prim.Native.Nat.{ℕ, _+_, _*_, _%_}
 use Rattle.base.specs.Answers.{Answer, gives, refused}
 use Rattle.base.specs.Ends.{End, done, spent, fault, short, full, out-of-range, astray, Ran}

@@ -51,7 +51,8 @@ operand-text k (JMPGE i) = ascii " " ++ signed (operand k (JMPGE i))
 abbrev pub record-text : {Name : Type 0} → Kind Name → Record Name → List ℕ
 record-text k r = name-text r ++ operand-text k r
 
--- The lines of records from position i on, assembly and machine beside each other. (Bytes don't depend on the kind's n.)
+-- The lines of records from position i on, assembly and machine beside each other. (Bytes don't depend on the kind's
+-- n.)
 unfoldable pub record-lines : ℕ → AssemblyCode → MachineCode → List ℕ
 record-lines i [] Q = []
 record-lines i (a ∷ P) [] = []

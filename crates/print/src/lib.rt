@@ -1,1 +1,1 @@
-// What the printing program prints for a text: the definitions stand in specs/.
+// What the printing program prints for a text. The definitions stand in specs/.

@@ -1,6 +1,6 @@
-// What the printing program prints but for the record lines, as bytes in a lent buffer. Each function puts one line, or a
-// part of one, at a place of the buffer and gives the place after it; every other byte stays as it was (Puts). It asks for
-// room for the longest such line.
+// What the printing program prints but for the record lines, as bytes in a lent buffer. Each function puts one line, or
+// a part of one, at a place of the buffer and gives the place after it; every other byte stays as it was (Puts). It
+// asks for room for the longest such line.
 use base::End;
 use base::Refusal;
 use base::VARIABLES;
@@ -91,7 +91,8 @@ pub fn put_value_lines(out: &mut [u8], at: usize, table: &[u8], store: &[i32]) -
 
 pub fn put_refusal(out: &mut [u8], at: usize, refusal: Refusal) -> usize
     requires { ⌜ at + 33 ≤ length (now out) ⌝ }
-    ensures { λ r. ⌜ Puts (refusal-line (refusal .number) (refusal .place)) at (now (out .entry)) (now (out .exit)) r ⌝ }
+    ensures { λ r. ⌜ Puts (refusal-line (refusal .number) (refusal .place)) at (now (out .entry))
+        (now (out .exit)) r ⌝ }
 {
     let next = print_ascii::put_word(out, at, b"refused ");
     let next = print_ascii::put_decimal(out, next, refusal.number as usize);

@@ -1,5 +1,5 @@
-// The whole of what the printing program prints for a text, as bytes in a lent buffer. What is run is the machine code: the
-// text is compiled, and its code and table are run as a pair.
+// The whole of what the printing program prints for a text, as bytes in a lent buffer. What is run is the machine code:
+// the text is compiled, and its code and table are run as a pair.
 ghost use Prim.Native.Nat.{ℕ, _*_, _≤_};
 ghost use mathlib.Core.Path.{_≡_};
 ghost use lib.ListN.{length};

@@ -1,5 +1,6 @@
-// For tests only: public calls whose answers are one number, so that programs in other languages can compare them. What
-// each answers is said by its own contract and by that of the function that packs it.
+// Calls for tests only, whose answers are one number, so that programs in other languages can compare them. No part of
+// the product; `examples/pieces.c` uses it, since the pod's library has no call that runs. What each answers is said by
+// the contract of its call and by that of the function that packs it.
 use base::Count;
 use base::Preview;
 use base::Run;

@@ -1,5 +1,6 @@
-// Reads a profile's text on standard input and prints what it is and does (document 01, "Profiles to hold it to"): its
-// sizes, its records in assembly and machine code, and its run on the machine, from zeros.
+// The printing program: a profile's text on standard input, and what it is and does. What it prints is document 01's
+// ("Profiles to hold it to"): the sizes, the records in assembly and machine code, and the run on the machine, from
+// zeros.
 ghost use Prim.Native.Nat.{_≤_};
 ghost use lib.ListN.{length};
 ghost use Rattle.show.specs.Input.{Within};

@@ -62,7 +62,8 @@ pub record Declines : Type 0 where
 
 -- ---- Previews (document 02, W3)
 
--- The same two assignments from sevens, previewed under budget 3, 4 and 6: the store so far, and the run's own at its end
+-- The same two assignments from sevens, previewed under budget 3, 4 and 6: the store so far, and the run's own at its
+-- end
 abbrev pub Previews : Type 0
 Previews = map (preview-source two-assignments (sevens 64)) (3 ∷ 4 ∷ 6 ∷ [])
     ≡ (gives (ran spent 3 2), sevens 64) ∷ (gives (ran spent 4 2), pos 3 ∷ sevens 63)

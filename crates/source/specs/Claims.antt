@@ -1,6 +1,6 @@
--- What is claimed of the source rules. The proof of the same spelling stands in proofs/.
--- WHILE is the printed rule; the source rules lead to the stores to which the published big-step rules lead, wherever no
--- budget ends out of range; two rules for sums that agree give the same runs; and a constant's width changes no run.
+-- What is claimed of the source rules. The proof of the same spelling stands in proofs/. WHILE is the printed rule; the
+-- source rules lead to the stores to which the published big-step rules lead, wherever no budget ends out of range; two
+-- rules for sums that agree give the same runs; and a constant's width changes no run.
 use mathlib.Core.Path.{_≡_}
 use mathlib.Core.Logic.{_↔_}
 use mathlib.Core.Bool.{false}

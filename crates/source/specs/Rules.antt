@@ -1,4 +1,5 @@
--- Source rules and ticks (document 01, "Source rules and ticks"), with the stack that they would need (document 02, W2).
+-- Source rules and ticks (document 01, "Source rules and ticks"), with the stack that they would need (document 02,
+-- W2).
 use Prim.Native.Nat.{ℕ, zero, suc, _-_, max}
 use mathlib.Core.Bool.{Bool, false, not, Bool·beq}
 use mathlib.Core.List.{List}
@@ -21,8 +22,8 @@ pub data Early : Type 0 where
 abbrev pub Store : Type 0
 Store = List ℤ
 
--- The state of a run: the ticks left of the budget; the height, how many values are on the stack, and the mark, the most
--- that were; the store
+-- The state of a run: the ticks left of the budget; the height, how many values are on the stack, and the mark, the
+-- most that were; the store
 pub record State : Type 0 where
   pub left : ℕ
   pub height : ℕ

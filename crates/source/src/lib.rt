@@ -1,1 +1,1 @@
-// The source rules and the published big-step rules: the definitions stand in specs/.
+// The source rules with ticks, the published big-step rules, and what is claimed of them. These stand in specs/.

@@ -1,5 +1,5 @@
--- What the code's answer for a command says: an outcome of the rules on a store, with the position after the command. The
--- ticks left and the mark stand beside the answer, as they are lent; commands stand on an empty stack.
+-- What the code's answer for a command says: an outcome of the rules on a store, with the position after the command.
+-- The ticks left and the mark stand beside the answer, as they are lent; commands stand on an empty stack.
 use Prim.Native.Nat.{ℕ}
 use lib.IntN.{ℤ}
 use Rattle.base.specs.Acts.{ok, ended, _>>_}

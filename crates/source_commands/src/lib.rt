@@ -1,5 +1,5 @@
-// The executor of commands, as they stand in a text, by the source rules. What is lent to it is lent as to the executor of
-// expressions and conditions.
+// The executor of commands and loops, as they stand in a text, by the source rules. What is lent to it is lent as to
+// the executor of expressions and conditions.
 ghost use mathlib.Core.Path.{_≡_};
 ghost use mathlib.Core.List.{List};
 ghost use Prim.Native.Nat.{ℕ, _<_};

@@ -1,5 +1,5 @@
-// The source executor's call and its preview: a profile text is read, and then run as it stands, by the source rules. The
-// text and the store are copied into arrays for the run, which is then faster (source_values says why).
+// The call `run_source`, its tests and its preview: a text is read, and then run as it stands. The text and the store
+// are copied into arrays for the run, which is then faster (source_values says why).
 ghost use mathlib.Core.Path.{_≡_};
 ghost use Prim.Native.Nat.{_≤_};
 ghost use lib.Dec.{leb};
@@ -185,8 +185,8 @@ fn run_text(text: &[u8], store: &mut [i32; VARIABLES], budget: u32) -> Run
     run_long(text, &buffer, store, budget, from)
 }
 
-// Runs a text on a store under a budget: the end, the count and the mark, and the store as it is left. It refuses 6, 1 to
-// 5, then 8, and the store then stays as it is.
+// Runs a text on a store under a budget: the end, the count and the mark, and the store as it is left. It refuses 6, 1
+// to 5, then 8, and the store then stays as it is.
 pub fn run_source(text: &[u8], store: &mut [i32], budget: u32) -> Run
     ensures { λ r. ⌜ (run-answer r, now (store .exit))
         ≡ run-source (now (text .entry)) (now (store .entry)) budget ⌝ }

@@ -127,8 +127,8 @@ fn variable(
     }
 }
 
-// The sum of two values that stood on the stack, and of at most `high` with them: one tick, and the end of the run where
-// it is out of range.
+// The sum of two values that stood on the stack, and of at most `high` with them: one tick, and the end of the run
+// where it is out of range.
 fn summed(x: i32, y: i32, high: usize, next: usize, left: &mut u32) -> Value
     requires { ⌜ 1 ≤ high ⌝ }
     ensures { λ r. ⌜ ((h mark : ℕ) (m : List ℤ) → valued r (now (left .exit)) h mark m
@@ -215,8 +215,8 @@ fn plus(
     }
 }
 
-// The right side of an assignment. Most are sums, which are called from here; so `plus` stays a function of its own, and
-// a leaf costs no call.
+// The right side of an assignment. Most are sums, which are called from here; so `plus` stays a function of its own,
+// and a leaf costs no call.
 pub fn right_side(
     text: &[u8; text::LONGEST],
     at: usize,

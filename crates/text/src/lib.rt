@@ -1,4 +1,5 @@
-// Profile texts: syntax, reading and sizes stand in specs/; the limits and the answer of a call on a text are here.
+// Profile texts: syntax, reading with its refusals, encoding and limits, sizes, the two spellings of constants, and
+// what is claimed of them. These stand in specs/; the limits and the answer of a call on a text are here.
 ghost use mathlib.Core.Path.{_≡_};
 ghost use Rattle.base.specs.Answers.{refused};
 ghost use Rattle.text.specs.Code.{sizes-answer};

@@ -1,5 +1,5 @@
-// Profile texts: reading the bytes of a command. As in `text_conditions`, variables that are named are noted, and a
-// helper is given the position of the construct's first byte and the nesting left for the parts.
+// Reading the bytes of a command. As in `text_conditions`, variables that are named are noted, and a helper is given
+// the position of the construct's first byte and the nesting left for the parts.
 ghost use Prim.Native.Nat.{_<_};
 ghost use lib.ListN.{length};
 ghost use Rattle.text.specs.Reading.{command, assignment, sequence, choice, loop};

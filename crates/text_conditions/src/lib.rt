@@ -1,4 +1,4 @@
-// Profile texts: reading the bytes of an expression or of a condition.
+// Reading the bytes of an expression or of a condition.
 ghost use mathlib.Core.Path.{_≡_};
 ghost use mathlib.Core.List.{List};
 ghost use mathlib.Core.Bool.{Bool, Bool·beq};

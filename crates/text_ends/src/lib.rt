@@ -16,7 +16,8 @@ use text_shape::constant_width;
 
 // ---- A cache of part ends
 
-// Texts of up to so many bytes have a cache of this length, longer ones one of `text::LONGEST`: each call clears its own.
+// Texts of up to so many bytes have a cache of this length, longer ones one of `text::LONGEST`: each call clears its
+// own.
 pub const SHORT_TEXT: usize = 256;
 
 fn wide(value: u16) -> usize
@@ -131,8 +132,8 @@ fn end_at(text: &[u8], at: usize, ends: &[u16]) -> usize
     }
 }
 
-// Notes the end of each part from a position on, from the text's last byte back. (Bytes inside a construct are taken for
-// the first of one too: nobody looks those up.)
+// Notes the end of each part from a position on, from the text's last byte back. (Bytes inside a construct are taken
+// for the first of one too: nobody looks those up.)
 pub fn note_ends(text: &[u8], from: usize, ends: &mut [u16])
     requires { ⌜ PartEnds (now text) (now ends) ⌝ }
     requires { ⌜ getD (now ends) 0 0 ≡ 0 ⌝ }

@@ -1,4 +1,4 @@
-// Profile texts: reading a text whole.
+// Reading a text whole: the call `read`.
 ghost use mathlib.Core.Path.{_≡_};
 ghost use lib.ListN.{length};
 ghost use Rattle.text.specs.Sizes.{how-many};

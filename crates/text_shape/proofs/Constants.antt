@@ -1,5 +1,5 @@
--- A constant's width by its first byte (Shape) is the width that reading gives: so where a constant was read, its value,
--- its width and its end are those that `constant-at` tells.
+-- A constant's width by its first byte (Shape) is the width that reading gives: so where a constant was read, its
+-- value, its width and its end are those that `constant-at` tells.
 use mathlib.Core.Path.{_≡_, refl}
 use mathlib.Core.Logic.{_⊎_, inl, inr}
 use mathlib.Core.Bool.{false}

@@ -1,5 +1,5 @@
--- A cache: what was worked out at positions of a text, 0 where nothing is known. Whatever stands in it is right, so it stays
--- right whatever is added to it that is right, and nobody has to say which positions were visited.
+-- A cache: what was worked out at positions of a text, 0 where nothing is known. Whatever stands in it is right, so it
+-- stays right whatever is added to it that is right, and nobody has to say which positions were visited.
 use Prim.Native.Nat.{ℕ}
 use mathlib.Core.List.{List}
 use mathlib.Core.Path.{_≡_}

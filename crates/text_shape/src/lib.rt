@@ -1,5 +1,5 @@
-// The shape of a text: the first byte of each construct, a constant's value and width. Nothing else knows how many bytes
-// a constant has.
+// The shape of a text: the first byte of each construct, a constant's value and width. Nothing else knows how many
+// bytes a constant has.
 ghost use mathlib.Core.Path.{_≡_};
 ghost use Prim.Native.Nat.{_+_, _≤_};
 ghost use lib.ListN.{length, getD};

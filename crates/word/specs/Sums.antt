@@ -18,8 +18,8 @@ greatest = pos 2147483647
 unfoldable pub limited : ℤ → Sum
 limited z = if ltZ z least then Out else if ltZ greatest z then Out else Fits z
 
--- A rule for sums: the ticks left after the sum's tick, the two numbers, what they come to. The ticks are there so that a
--- rule can change in the course of a run (document 02, W9); no claim but those that say so depends on them
+-- A rule for sums: the ticks left after the sum's tick, the two numbers, what they come to. The ticks are there so that
+-- a rule can change in the course of a run (document 02, W9); no claim but those that say so depends on them
 abbrev pub SumRule : Type 0
 SumRule = ℕ → ℤ → ℤ → Sum
 

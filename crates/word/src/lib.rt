@@ -1,5 +1,5 @@
-// Signed 32-bit numbers: the sum, the order, four bytes or one to a number, a number to four bytes, a jump's target.
-// Every operation on signed numbers that needs a proof stands here.
+// Signed 32-bit numbers: the sum, the order, four bytes or one and a number, where a jump leads. Every operation on
+// signed numbers that needs a proof stands here.
 ghost use mathlib.Core.Path.{_≡_};
 ghost use Prim.Native.Nat.{_+_, _<_, _≤_};
 ghost use lib.ListN.{length};

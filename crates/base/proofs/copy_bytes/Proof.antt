@@ -1,4 +1,5 @@
--- `copy_bytes` writes bytes over the start of a buffer: a sweep to what then stands there, which past the bytes is as before.
+-- `copy_bytes` writes bytes over the start of a buffer: a sweep to what then stands there, which past the bytes is as
+-- before.
 use mathlib.Core.Path.{_≡_, sym, ap, _∙_}
 use mathlib.Core.List.{List, _++_}
 use Prim.Native.Nat.{ℕ, _+_, _-_, _<_, _≤_}

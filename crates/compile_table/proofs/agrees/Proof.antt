@@ -1,5 +1,5 @@
--- `agrees` sees the records from the last backwards: of those from i on, the addresses at their first sight are 1 to `seen`,
--- for whichever records the code passed with.
+-- `agrees` sees the records from the last backwards: of those from i on, the addresses at their first sight are 1 to
+-- `seen`, for whichever records the code passed with.
 use Prim.Native.Nat.{_≤_}
 use native.Mathlib.Nat.{le-refl}
 use native.Mathlib.Omega.{arith}

@@ -1,5 +1,5 @@
--- `load_run_read` meets its contract: the zeros with the store's variables in them are the loaded memory, and what is read back
--- from the run on it is the call's store.
+-- `load_run_read` meets its contract: the zeros with the store's variables in them are the loaded memory, and what is
+-- read back from the run on it is the call's store.
 use mathlib.Core.Path.{refl}
 use native.Mathlib.Omega.{arith}
 use borrow.Author.Needs.{needs}

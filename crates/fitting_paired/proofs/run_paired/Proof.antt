@@ -1,5 +1,5 @@
--- `run_paired` meets its contract: it declines by its tests, or runs on a memory of its own. Demand 3 then follows from the
--- call's equation.
+-- `run_paired` meets its contract: it declines by its tests, or runs on a memory of its own. Demand 3 then follows from
+-- the call's equation.
 use mathlib.Core.Path.{_≡_, sym, _∙_, ap}
 use Prim.Native.Nat.{ℕ}
 use native.Mathlib.Omega.{arith}

@@ -1,5 +1,5 @@
--- `compile_and_go_back` meets its contract: compiling declined, or going back started from what it wrote. What the claim
--- says of the output then follows from the equation.
+-- `compile_and_go_back` meets its contract: compiling declined, or going back started from what it wrote. What the
+-- claim says of the output then follows from the equation.
 use mathlib.Core.Path.{ap}
 use native.Mathlib.Omega.{arith}
 use borrow.Author.Needs.{needs}

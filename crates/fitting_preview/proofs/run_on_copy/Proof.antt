@@ -1,5 +1,5 @@
--- `run_on_copy` meets its contract: the copy holds what the memory holds, so the run is that of `run_machine`, and what is
--- read back from it is the preview's store.
+-- `run_on_copy` meets its contract: the copy holds what the memory holds, so the run is that of `run_machine`, and what
+-- is read back from it is the preview's store.
 use mathlib.Core.Path.{ap, _∙_}
 use native.Mathlib.Omega.{arith}
 use lib.ListN.{length}

@@ -1,5 +1,5 @@
--- `fit` meets its contract: compiling declined, or the row went on with what it gave and left. Demand 3 then follows from
--- the row's equation.
+-- `fit` meets its contract: compiling declined, or the row went on with what it gave and left. Demand 3 then follows
+-- from the row's equation.
 use mathlib.Core.Path.{_≡_, sym, _∙_, ap}
 use native.Mathlib.Omega.{arith}
 use mathlib.Core.List.{List}

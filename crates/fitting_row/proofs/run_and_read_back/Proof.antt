@@ -1,4 +1,5 @@
--- `run_and_read_back` meets its contract: the row ends where a call declined, and else goes on with what it gave and left.
+-- `run_and_read_back` meets its contract: the row ends where a call declined, and else goes on with what it gave and
+-- left.
 use mathlib.Core.Path.{refl, ap}
 use native.Mathlib.Omega.{arith}
 use borrow.Author.Needs.{needs}

@@ -1,4 +1,5 @@
--- A position is looked at: what the end, a record that breaks its height and the ways of a record come to is Visiting's.
+-- A position is looked at: what the end, a record that breaks its height and the ways of a record come to is
+-- Visiting's.
 use mathlib.Core.Path.{_≡_, sym, ap, subst, _∙_}
 use Prim.Native.Nat.{ℕ, _-_, _+_, _<_, _≤_}
 use native.Mathlib.Omega.{arith}

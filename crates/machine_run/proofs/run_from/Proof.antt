@@ -1,5 +1,5 @@
--- A run from a state, over code, memory and state that passed the tests: they give what `finish` asks for, and its answer
--- tells what the definition's run tells.
+-- A run from a state, over code, memory and state that passed the tests: they give what `finish` asks for, and its
+-- answer tells what the definition's run tells.
 use mathlib.Core.Path.{sym, subst, _∙_}
 use native.Mathlib.Omega.{arith}
 use borrow.Author.Needs.{needs}

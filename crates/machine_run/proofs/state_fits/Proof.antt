@@ -1,5 +1,5 @@
--- The four tests of refusal 15, in the order of the conjunction that the definition names. Count and budget are added in
--- 64 bits, which hold the sum of any two that 32 bits hold.
+-- The four tests of refusal 15, in the order of the conjunction that the definition names. Count and budget are added
+-- in 64 bits, which hold the sum of any two that 32 bits hold.
 use native.Mathlib.Omega.{arith}
 use borrow.Author.Needs.{needs}
 use borrow.Author.Tests.{le-leb, lt-leb}

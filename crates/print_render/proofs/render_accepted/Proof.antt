@@ -1,4 +1,5 @@
--- The text is accepted, so assembling and compiling write its codes and its table, and the run of the pair is its run (Shown).
+-- The text is accepted, so assembling and compiling write its codes and its table, and the run of the pair is its run
+-- (Shown).
 use mathlib.Core.Path.{refl, ap}
 use Prim.Native.Nat.{_*_, _≤_}
 use native.Mathlib.Omega.{arith}

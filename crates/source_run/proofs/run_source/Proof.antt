@@ -1,4 +1,5 @@
--- `run_source` meets its contract: it declines by its tests, or runs the text on a copy of the store and copies that back.
+-- `run_source` meets its contract: it declines by its tests, or runs the text on a copy of the store and copies that
+-- back.
 use mathlib.Core.Path.{ap, _∙_}
 use native.Mathlib.Omega.{arith}
 use lib.IntN.{pos}
