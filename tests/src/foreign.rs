@@ -40,8 +40,8 @@ pub fn done_at_once(names: impl Iterator<Item = u8>) -> Vec<u8> {
     records.into_iter().rev().flatten().collect()
 }
 
-/// Heights from 0 to 0, at least so many after the first, none above D: each from the one before it by a push, a store, a
-/// sum, a comparing jump or, after a jump, freely. And which of the records between them are jumps.
+/// Heights from 0 to 0, at least so many after the first, none above D: each from the one before it by a push, a store,
+/// a sum, a comparing jump or, after a jump, freely. And which of the records between them are jumps.
 fn heights(random: &mut Random, depth: usize, least: usize) -> (Vec<usize>, Vec<bool>) {
     let (mut heights, mut jumps) = (vec![0], Vec::new());
     while heights.len() <= least || *heights.last().unwrap() != 0 {
@@ -67,8 +67,8 @@ pub struct Foreign {
 }
 
 impl Foreign {
-    /// Code to which heights can be given, of at least so many records. The heights come first, then the records, a jump
-    /// going to any position of the height that it leaves.
+    /// Code to which heights can be given, of at least so many records. The heights come first, then the records, a
+    /// jump going to any position of the height that it leaves.
     pub fn with_heights(random: &mut Random, least: usize) -> Foreign {
         let (depth, cells) = (random.below(7), 1 + random.below(3));
         let (heights, jumps) = heights(random, depth, least);

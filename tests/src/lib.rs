@@ -7,6 +7,7 @@ pub mod foreign;
 pub mod generator;
 pub mod json;
 pub mod model;
+pub mod pages;
 pub mod programs;
 pub mod seeds;
 pub mod vectors;

@@ -1,6 +1,6 @@
 //! A simple interpreter of profiles, written from documents 01 and 02 alone: reading, the source rules, compilation,
-//! both executors, the way back, the calls, and the printing program. Plain rather than fast; nothing here is shared with
-//! the proved code.
+//! both executors, the way back, the calls, and the printing program. Plain rather than fast; nothing here is shared
+//! with the proved code.
 
 use std::fmt::Write;
 

@@ -1,51 +1,15 @@
-//! `crates.txt` is in order, and what docs/ARCHITECTURE.md shows of it is true.
+//! `crates.txt` is in order, and what README.md and docs/ARCHITECTURE.md show of it is true.
 
 use std::collections::{BTreeMap, BTreeSet};
-use std::path::{Path, PathBuf};
 use std::process::Command;
 
-fn root() -> PathBuf {
-    Path::new(env!("CARGO_MANIFEST_DIR")).join("..")
-}
-
-fn text(path: &str) -> String {
-    std::fs::read_to_string(root().join(path)).unwrap_or_else(|error| panic!("{path}: {error}"))
-}
-
-/// A crate, the family that it is listed under, and the crates that it uses.
-struct Listed {
-    name: String,
-    family: String,
-    uses: Vec<String>,
-}
-
-/// The lines of crates.txt. A family's heading is `# name: what it is`.
-fn listed() -> Vec<Listed> {
-    let mut family = String::new();
-    let mut crates = Vec::new();
-    for line in text("crates.txt").lines() {
-        if let Some(heading) = line.strip_prefix("# ") {
-            family = heading.split(':').next().unwrap().to_string();
-        } else if let Some((name, uses)) = line.split_once(':') {
-            let uses = uses.split_whitespace().map(str::to_string).collect();
-            crates.push(Listed { name: name.to_string(), family: family.clone(), uses });
-        }
-    }
-    crates
-}
+use profile_tests::pages::{between, cells, files, listed, root, source, text};
 
 const KIT: [&str; 5] = ["check", "libc", "io", "os", "bytes"];
 
 /// All files of a crate's src/, specs/ and proofs/, joined.
-fn files(folder: &Path, all: &mut String) {
-    for entry in std::fs::read_dir(folder).unwrap() {
-        let path = entry.unwrap().path();
-        if path.is_dir() && !path.ends_with("must-fail") {
-            files(&path, all);
-        } else if path.extension().is_some_and(|extension| extension == "rt" || extension == "antt") {
-            all.push_str(&std::fs::read_to_string(path).unwrap());
-        }
-    }
+fn joined(name: &str) -> String {
+    files(&format!("crates/{name}"), &[".rt", ".antt"]).iter().map(|path| text(path)).collect()
 }
 
 /// Whether a text names a crate: `name::` in code, `Rattle.name` in a use line.
@@ -62,8 +26,7 @@ fn names(text: &str, name: &str) -> bool {
 fn uses() {
     let mut above = BTreeSet::new();
     for one in listed() {
-        let mut all = String::new();
-        files(&root().join("crates").join(&one.name), &mut all);
+        let all = joined(&one.name);
         for used in &one.uses {
             assert!(above.contains(used) || KIT.contains(&used.as_str()), "{} is not above {}", used, one.name);
             assert!(names(&all, used), "no file of {} names {used}", one.name);
@@ -82,52 +45,75 @@ fn families() {
     }
 }
 
-/// The part of a document between two lines.
-fn between<'a>(document: &'a str, first: &str, last: &str) -> &'a str {
-    let start = document.find(first).unwrap() + first.len();
-    &document[start..start + document[start..].find(last).unwrap()]
-}
-
-/// The picture shows each family once, above those that its crates use.
-#[test]
-fn picture() {
-    let document = text("docs/ARCHITECTURE.md");
-    let mut rows = BTreeMap::new();
-    for (row, line) in between(&document, "\n```\n", "\n```\n").lines().enumerate() {
-        for word in line.split(|c: char| !c.is_ascii_lowercase()).filter(|word| !word.is_empty()) {
-            assert!(rows.insert(word.to_string(), row).is_none(), "{word} is drawn twice");
-        }
-    }
+/// The families, each with those that its crates use, and those with what they use in turn.
+fn stands_on() -> BTreeMap<String, BTreeSet<String>> {
     let crates = listed();
     let family: BTreeMap<_, _> = crates.iter().map(|one| (&one.name, &one.family)).collect();
+    let mut found: BTreeMap<String, BTreeSet<String>> = BTreeMap::new();
     for one in &crates {
-        for used in one.uses.iter().filter_map(|used| family.get(used)) {
-            assert!(*used == &one.family || rows[*used] > rows[&one.family], "{} is drawn above {used}", one.family);
-        }
+        let used: BTreeSet<String> =
+            one.uses.iter().filter_map(|used| family.get(used)).map(|f| f.to_string()).collect();
+        let below: Vec<String> = used.iter().flat_map(|used| found.get(used).into_iter().flatten().cloned()).collect();
+        found.entry(one.family.clone()).or_default().extend(used.into_iter().chain(below));
     }
-    let drawn: BTreeSet<_> = rows.keys().collect();
-    assert_eq!(drawn, family.values().copied().collect());
+    found
+        .iter()
+        .map(|(family, below)| (family.clone(), below.iter().filter(|f| *f != family).cloned().collect()))
+        .collect()
 }
 
-/// The table below it has each crate once, under its family, in the order of crates.txt.
+/// README.md shows each family once, highest first, with those that it stands on but not by another of them.
+#[test]
+fn picture() {
+    let document = text("README.md");
+    let section = between(&document, "## The families of crates", "\n## ");
+    let mut shown = Vec::new();
+    let below = stands_on();
+    for line in section.lines().filter(|line| line.starts_with("    ")) {
+        let columns: Vec<&str> = line.split("  ").map(str::trim).filter(|column| !column.is_empty()).collect();
+        let on: BTreeSet<String> = columns.get(2).iter().flat_map(|on| on.split(", ")).map(str::to_string).collect();
+        let all = &below[columns[0]];
+        let direct: BTreeSet<_> = all.iter().filter(|f| !all.iter().any(|g| below[g].contains(*f))).cloned().collect();
+        assert_eq!(on, direct, "{line}");
+        assert!(on.iter().all(|used| !shown.contains(used)), "{line}");
+        shown.push(columns[0].to_string());
+    }
+    assert_eq!(shown.into_iter().collect::<BTreeSet<_>>(), below.keys().cloned().collect());
+}
+
+/// The first sentence of a crate's source: what the crate is.
+fn first_comment(name: &str) -> String {
+    let source = source(name);
+    let lines: Vec<&str> = source.lines().map_while(|line| line.strip_prefix("//")).map(str::trim).collect();
+    let comment = lines.join(" ");
+    comment.split_once(". ").map_or(comment.trim_end_matches('.'), |(sentence, _)| sentence).to_string()
+}
+
+/// docs/ARCHITECTURE.md's table has each crate once, under its family, in the order of crates.txt, with the first
+/// sentence of its source.
 #[test]
 fn tree() {
     let document = text("docs/ARCHITECTURE.md");
     let mut family = String::new();
     let mut shown = Vec::new();
     for line in between(&document, "|---|---|\n", "\n\n").lines() {
-        let cell = line.split('|').nth(1).unwrap().trim();
-        match cell.strip_prefix("**") {
+        let cell = cells(line);
+        match cell[0].strip_prefix("**") {
             Some(name) => family = name.trim_end_matches('*').to_string(),
-            None => shown.push((family.clone(), cell.trim_matches('`').to_string())),
+            None => {
+                let name = cell[0].trim_matches('`').to_string();
+                assert_eq!(cell[1], first_comment(&name), "{name}");
+                shown.push((family.clone(), name));
+            }
         }
     }
     let listed: Vec<_> = listed().into_iter().map(|one| (one.family, one.name)).collect();
     assert_eq!(shown, listed);
 }
 
-/// The back end inlines a step into its run loop, and the loop into the function that calls it, only while it has one caller.
-/// A step that is a function of its own makes each record eight times as dear, a loop that is one makes more instructions of it.
+/// The back end inlines a step into its run loop, and the loop into the function that calls it, only while it has one
+/// caller. A step that is a function of its own makes each record eight times as dear, a loop that is one makes more
+/// instructions of it.
 #[test]
 fn steps_and_loops_are_inlined() {
     let library = root().join("target/staticlib/libprobe.a");
