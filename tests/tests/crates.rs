@@ -112,8 +112,7 @@ fn tree() {
 }
 
 /// The back end inlines a step into its run loop, and the loop into the function that calls it, only while it has one
-/// caller. A step that is a function of its own makes each record eight times as dear, a loop that is one makes more
-/// instructions of it.
+/// caller. docs/SPEED.md ("Executors of records") says what one that is a function of its own costs.
 #[test]
 fn steps_and_loops_are_inlined() {
     let library = root().join("target/staticlib/libprobe.a");

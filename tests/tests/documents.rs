@@ -92,20 +92,25 @@ fn head<'a>(text: &'a str, name: &str) -> &'a str {
     between(text, &format!("pub fn {name}("), "\n{")
 }
 
-/// The calls that README.md lists are those of docs/CALLS.md. Each stands in the crate named there, has no `requires`,
-/// and promises something.
+/// The names of its parameters.
+fn parameters(head: &str) -> Vec<&str> {
+    let list = &head[..head.find(") ->").unwrap()];
+    list.split(',').filter_map(|parameter| parameter.split_once(':')).map(|(name, _)| name.trim()).collect()
+}
+
+/// The calls that README.md lists are those of docs/CALLS.md. Each stands in the crate named there, with these
+/// parameters; it has no `requires`, and promises something.
 #[test]
 fn calls() {
     let mut described = BTreeSet::new();
     for line in text("docs/CALLS.md").lines() {
         let cells = cells(line);
-        let Some((call, _)) = cells.first().and_then(|cell| cell.strip_prefix('`')).and_then(|c| c.split_once('('))
-        else {
-            continue;
-        };
+        let Some(call) = cells.first().and_then(|cell| cell.strip_prefix('`')?.strip_suffix(")`")) else { continue };
+        let Some((call, given)) = call.split_once('(') else { continue };
         let layer = quoted(cells.last().unwrap())[0];
         let source = source(layer);
         let contract = head(&source, call);
+        assert_eq!(given.split(", ").collect::<Vec<_>>(), parameters(contract), "docs/CALLS.md: {layer}::{call}");
         assert!(!contract.contains("requires {") && contract.contains("ensures {"), "{layer}::{call}");
         described.insert(call.to_string());
     }
@@ -116,12 +121,13 @@ fn calls() {
     assert!(described.len() >= 17);
 }
 
-/// An edit's own words: what it makes wrong, and what refuses it.
-fn words(edit: &str) -> (String, String) {
-    let comment: Vec<&str> = edit.lines().map_while(|line| line.strip_prefix('#')).map(str::trim).collect();
-    let (wrong, refused) =
-        comment.join(" ").split_once("refused:").map(|(a, b)| (a.to_string(), b.to_string())).unwrap();
-    (wrong.trim().to_string(), refused.trim().to_string())
+/// An edit's own words: what it makes wrong, and, from the line that begins so, what refuses it.
+fn words(path: &str) -> (String, String) {
+    let text = text(path);
+    let comment: Vec<&str> = text.lines().map_while(|line| line.strip_prefix('#')).map(str::trim).collect();
+    let at = comment.iter().position(|line| line.starts_with("refused: ")).unwrap_or_else(|| panic!("{path}: refused"));
+    let refused = comment[at..].join(" ");
+    (comment[..at].join(" "), refused.trim_start_matches("refused: ").to_string())
 }
 
 /// docs/EDITS.md has a row for every must-fail edit, and for nothing else: its name, what it makes wrong in its own
@@ -134,7 +140,7 @@ fn edits() {
     for row in rows.iter().filter(|row| row[0].contains("/must-fail/")) {
         let path = format!("crates/{}.edit", row[0].trim_matches('`'));
         assert!(due.remove(&path), "docs/EDITS.md: {} is no edit, or stands there twice", row[0]);
-        let (wrong, refused) = words(&text(&path));
+        let (wrong, refused) = words(&path);
         assert_eq!(row[1], wrong, "docs/EDITS.md: {}", row[0]);
         assert!(!row[2].is_empty() && refused.starts_with(row[2]), "docs/EDITS.md: {}: {refused}", row[0]);
     }
@@ -152,11 +158,11 @@ fn widest(path: &str, line: &str) -> usize {
     }
 }
 
-/// Prose, definitions and code have at most 120 columns, a row of a table 300.
+/// Prose, definitions, code and proofs have at most 120 columns, a row of a table 300.
 #[test]
 fn widths() {
     let mut all = pages();
-    all.extend(files("crates", &[".antt", ".rt", ".edit"]).into_iter().filter(|path| !path.contains("/proofs/")));
+    all.extend(files("crates", &[".antt", ".rt", ".edit"]));
     for folder in ["tests", "bench", "examples", "include"] {
         all.extend(files(folder, &[".rs", ".c", ".h"]));
     }

@@ -27,8 +27,9 @@ fn beside_code(file: &str) -> bool {
     ["Lib", "Code", "Buffer", "Sights"].iter().any(|name| file.ends_with(&format!("/{name}")))
 }
 
-/// The files of `specs/` that a file of `specs/` uses, as `crate/File`. A declared type is the code's own.
-fn used(file: &str) -> Vec<String> {
+/// What a file of `specs/` uses of other files of `specs/`: each as `crate/File`, with the names. A declared type is
+/// the code's own.
+fn uses(file: &str) -> Vec<(String, Vec<String>)> {
     let mut found = Vec::new();
     for line in specs(file).lines().filter_map(|line| line.strip_prefix("use Rattle·")) {
         let layer = line.split(['·', '.']).next().unwrap();
@@ -36,10 +37,16 @@ fn used(file: &str) -> Vec<String> {
         let name = path.split('.').find(|part| part.starts_with(|first: char| first.is_ascii_uppercase())).unwrap();
         let used = format!("{layer}/{}", name.split(' ').next().unwrap());
         if !line.contains(".declared.") && !beside_code(&used) {
-            found.push(used);
+            let names = line.split_once('{').map_or("", |(_, names)| names.trim_end_matches('}'));
+            found.push((used, names.split(", ").map(|name| name.split(' ').next().unwrap().to_string()).collect()));
         }
     }
     found
+}
+
+/// Whether a cell has a name between backticks, alone or given something.
+fn tells(cell: &str, name: &str) -> bool {
+    quoted(cell).iter().any(|quote| quote.split(' ').next() == Some(name))
 }
 
 fn specs(file: &str) -> String {
@@ -47,9 +54,9 @@ fn specs(file: &str) -> String {
     text(&format!("crates/{layer}/specs/{name}.antt"))
 }
 
-/// The files in the first cells of a part's tables: those under `Open`, which are read, or under `File`, which are
-/// told.
-fn part(page: &str, heading: &str, first: &str) -> Vec<String> {
+/// The files in the first cells of a part's tables, each with the last cell of its row: those under `Open`, which are
+/// read, or under `File`, which are told.
+fn part(page: &str, heading: &str, first: &str) -> Vec<(String, String)> {
     let section = between(page, &format!("### {heading}"), "\n##");
     let mut open = false;
     let mut found = Vec::new();
@@ -57,7 +64,8 @@ fn part(page: &str, heading: &str, first: &str) -> Vec<String> {
         if ["Open", "File"].contains(&cells[0]) {
             open = cells[0] == first;
         } else if open {
-            found.extend(quoted(cells[0]).into_iter().filter(|name| is_file(name)).map(str::to_string));
+            let files = quoted(cells[0]).into_iter().filter(|name| is_file(name));
+            found.extend(files.map(|file| (file.to_string(), cells.last().unwrap().to_string())));
         }
     }
     assert!(!found.is_empty() || first == "File", "{heading}");
@@ -68,38 +76,52 @@ fn is_file(name: &str) -> bool {
     name.split_once('/').is_some_and(|(layer, _)| is_crate(layer))
 }
 
-/// A reader's list: what is read and what is told, in order.
+/// A reader's list: what is read, in order, and what is told of other files.
 struct List {
     read: Vec<String>,
-    told: Vec<String>,
+    told: Vec<(String, String)>,
 }
 
 /// The therapist's list and the engineer's.
 fn lists() -> [List; 2] {
     let page = text("docs/READERS.md");
-    let forms = part(&page, "Both: the forms", "Open");
-    let therapist = part(&page, "The therapist:", "Open");
-    let engineer = part(&page, "The engineer:", "Open");
-    let calls = part(&page, "Both: the four calls", "Open");
-    [("The therapist:", therapist), ("The engineer:", engineer)].map(|(heading, own)| List {
-        read: [forms.clone(), own, calls.clone()].concat(),
-        told: part(&page, heading, "File"),
+    ["The therapist:", "The engineer:"].map(|own| {
+        let parts = ["Both: the forms", own, "Both: the four calls"].map(|heading| part(&page, heading, "Open"));
+        let read = parts.into_iter().flatten().map(|(file, _)| file).collect();
+        List { read, told: part(&page, own, "File") }
     })
 }
 
-/// Each file comes after the files that it uses, unless they are told; and what is told is used, and not read too.
+/// Each file comes after the files that it uses, unless what it uses of them is told by name.
 #[test]
 fn orders() {
     for List { read, told } in lists() {
         for (i, file) in read.iter().enumerate() {
-            for used in used(file) {
-                let known = read[..i].contains(&used) || told.contains(&used);
-                assert!(known, "docs/READERS.md: {file} uses {used}, which is neither read before it nor told");
+            for (used, names) in uses(file) {
+                let Some((_, cell)) = told.iter().find(|(told, _)| *told == used) else {
+                    assert!(read[..i].contains(&used), "docs/READERS.md: {file} uses {used}, not read before nor told");
+                    continue;
+                };
+                for name in names {
+                    assert!(tells(cell, &name), "docs/READERS.md: {file} uses {name}, which is not told of {used}");
+                }
             }
         }
-        for file in &told {
+    }
+}
+
+/// What is told of a file is used, and the file is not read too.
+#[test]
+fn what_is_told() {
+    for List { read, told } in lists() {
+        let used: Vec<(String, Vec<String>)> = read.iter().flat_map(|file| uses(file)).collect();
+        for (file, cell) in &told {
             assert!(!read.contains(file), "docs/READERS.md: {file} is read, and told");
-            assert!(read.iter().any(|one| used(one).contains(file)), "docs/READERS.md: nothing uses {file}");
+            let names: Vec<&String> = used.iter().filter(|(one, _)| one == file).flat_map(|(_, names)| names).collect();
+            for quote in quoted(cell) {
+                let name = quote.split(' ').next().unwrap();
+                assert!(names.iter().any(|one| *one == name), "docs/READERS.md: no file uses {name} of {file}");
+            }
         }
     }
 }

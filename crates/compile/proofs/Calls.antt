@@ -49,7 +49,8 @@ unfolding assemble settle
 assembled text out e room = simp (assemble-gives text out e room)
 
 -- There is room for the records of what was read, if the last test, of the output's length, gave it.
-room-passed : (out : List ℕ) {c d : Command} → (unless leb (5 * records d) (length out) refuse 7 at 0 else gives d) ≡ gives c
+room-passed : (out : List ℕ) {c d : Command} → (unless leb (5 * records d) (length out) refuse 7 at 0 else gives d)
+    ≡ gives c
     → (gives d ≡ gives c) × (5 * records c ≤ length out)
 room-passed out {c} {d} e =
     let u = unless-passed (leb (5 * records d) (length out)) 7 0 (gives d) e in
@@ -155,7 +156,8 @@ compile-room text l {l′ = l′} e f =
 
 -- ---- go_back
 
-pub go-back-gives : (code t out : List ℕ) {P : MachineCode} → whole-records code ≡ true → length t ≡ 64 → is-table t ≡ true
+pub go-back-gives : (code t out : List ℕ) {P : MachineCode} → whole-records code ≡ true → length t ≡ 64 → is-table t
+    ≡ true
     → records-of (machine-kind (named-in t)) code ≡ gives P → 5 * length P ≤ length out
     → go-back-tests code t out ≡ gives P
 unfolding go-back-tests and-then

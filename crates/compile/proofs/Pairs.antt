@@ -140,7 +140,13 @@ ordered-once : (v : ℕ) (xs : List ℕ) (b : Bool) → member v xs ≡ b → Or
 unfolding addr-of in-order
 ordered-once v xs true m i = i
 ordered-once v xs false m i =
-    simp (eq-eqb v v refl, same-addresses v xs xs m, length-map xs (addr-of xs), eq-eqb (suc (length xs)) (suc (length xs)) refl) i
+    simp (
+      eq-eqb v v refl,
+      same-addresses v xs xs m,
+      length-map xs (addr-of xs),
+      eq-eqb (suc (length xs))
+          (suc (length xs)) refl,
+    ) i
 
 -- The variables that records name, each at its last mention, are such.
 pub ordered : (P : AssemblyCode) → Ordered (vars P)
@@ -151,7 +157,8 @@ ordered (r ∷ P) = by (named r) refl (ordered P)
     by : (o : Option Variable) → named r ≡ o → Ordered (vars P) → Ordered (vars (r ∷ P))
     by none e i = subst Ordered (sym (mentions-none (λ v. v .0) r P e)) i
     by (some v) e i =
-        subst Ordered (sym (mentions-one (λ v. v .0) r P e)) (ordered-once (v .0) (vars P) (member (v .0) (vars P)) refl i)
+        subst Ordered (sym (mentions-one (λ v. v .0) r P e))
+        (ordered-once (v .0) (vars P) (member (v .0) (vars P)) refl i)
 
 -- ---- A command's machine code
 

@@ -20,7 +20,8 @@ use Rattle.record.specs.Records.{AssemblyCode, named}
 use Rattle.record.specs.declared.Variable.{Variable}
 use Rattle.compile.specs.Claims.{Tables, NamedVariables}
 use Rattle.compile.specs.Compilation.{ccomp}
-use Rattle.compile.specs.Table.{member, once, mentions, vars, addr-of, entries, times, named-in, once-each, is-table}
+use Rattle.compile.specs.Table.{member, once, mentions, vars, addr-of, entries, times, named-in, once-each}
+use Rattle.compile.specs.Table.{is-table}
 use Rattle.compile.proofs.Entries.{address-most, address-none, length-entries}
 use Rattle.compile.proofs.Counting.{one-more, none-pass, pass-or-not}
 use Rattle.compile.proofs.Mentions.{names-command}

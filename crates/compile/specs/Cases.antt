@@ -103,7 +103,7 @@ pub record BytesOfB : Type 0 where
       ≡ (gives (sized 4 2 2), code-and-table (B·machine ++ output 2) B·table)
   pub back-in-22 : go-back B·machine B·table (output 22) ≡ (gives 4, B·assembly ++ output 2)
 
--- ---- Where the calls decline: number and place, and what is lent as it was. Where there are two faults, the first in
+-- ---- Where the calls decline: number and place, and what is lent as it was. Where two refusals are due, the first in
 -- order is given
 
 -- assemble: 6, reading, 7.

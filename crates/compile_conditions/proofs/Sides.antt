@@ -39,31 +39,31 @@ and-is true distance b c =
 and-is false distance b c = refl
 
 -- Two conditions that are read in a row, from i up to n, as the And c, and what is asked of its records
-pub record Sides (r : Reader Condition) (flag : Bool) (distance total i n : ℕ) (c : Condition) (old : List ℕ) : Type 0
+pub record Sides (r : Reader Condition) (flag : Bool) (distance whole i n : ℕ) (c : Condition) (old : List ℕ) : Type 0
   where
     pub parts : Two (r i) r And c n
-    pub count : total ≡ size flag c
+    pub count : whole ≡ size flag c
     pub room : 5 * length (jumping flag distance c) ≤ length old
     pub few : distance + length (jumping flag distance c) < 2147483648
 
-module _ {r : Reader Condition} {flag : Bool} {distance total i n : ℕ} {c : Condition} {old : List ℕ}
-    (p : Sides r flag distance total i n c old) where
-  sum : total ≡ size false (p .parts .one) + size flag (p .parts .two)
+module _ {r : Reader Condition} {flag : Bool} {distance whole i n : ℕ} {c : Condition} {old : List ℕ}
+    (p : Sides r flag distance whole i n c old) where
+  sum : whole ≡ size false (p .parts .one) + size flag (p .parts .two)
   unfolding condition-records
   sum = p .count ∙ ap (size flag) (p .parts .is)
 
-  pub all : total ≡ length (jumping flag distance c)
+  pub all : whole ≡ length (jumping flag distance c)
   all = p .count ∙ sym (condition-count c flag (pos distance))
 
-  total-near : distance + total < 2147483648
-  total-near = omega (arith, all, p .few)
+  whole-near : distance + whole < 2147483648
+  whole-near = omega (arith, all, p .few)
 
   pub left-countable : Countable (size false) (r i)
   left-countable = record {
     part = p .parts .one;
     next = p .parts .middle;
     is = p .parts .first;
-    few = omega (arith, sum, total-near);
+    few = omega (arith, sum, whole-near);
   }
 
   -- The left side's size is known
@@ -71,17 +71,17 @@ module _ {r : Reader Condition} {flag : Bool} {distance total i n : ℕ} {c : Co
     left-is : left ≡ size false (p .parts .one)
     left-is = known _ _ (p .parts .first)
 
-    pub left-fits : left ≤ total
+    pub left-fits : left ≤ whole
     left-fits = omega (arith, left-is, sum)
 
-    right-is : total - left ≡ size flag (p .parts .two)
+    right-is : whole - left ≡ size flag (p .parts .two)
     right-is = omega (arith, left-is, sum)
 
-    pub reach-fits : total - left + distance < 2147483648
-    reach-fits = omega (arith, total-near)
+    pub reach-fits : whole - left + distance < 2147483648
+    reach-fits = omega (arith, whole-near)
 
     -- and how far it jumps
-    module _ {far : ℕ} (e : far ≡ reach-of flag (total - left) distance) where
+    module _ {far : ℕ} (e : far ≡ reach-of flag (whole - left) distance) where
       far-is : far ≡ reach-of flag (length (jumping flag distance (p .parts .two))) distance
       far-is =
           let right = condition-count (p .parts .two) flag (pos distance) in
@@ -104,8 +104,8 @@ module _ {r : Reader Condition} {flag : Bool} {distance total i n : ℕ} {c : Co
       unfolding sides
       left-writable =
           let count = condition-count (p .parts .one) false (pos far) in
-          let near = reach-near flag (total - left) distance in
-          first-jumping sides far (omega (arith, e, near, count, left-is, left-fits, total-near))
+          let near = reach-near flag (whole - left) distance in
+          first-jumping sides far (omega (arith, e, near, count, left-is, left-fits, whole-near))
 
       -- The left side was written
       module _ {xs : List ℕ} {t : PartSize} (w : Writes (jumping false far) (r i) old xs t) where
@@ -113,8 +113,8 @@ module _ {r : Reader Condition} {flag : Bool} {distance total i n : ℕ} {c : Co
         unfolding sides
         right-writable =
             let count = condition-count (p .parts .two) flag (pos distance) in
-            second-jumping sides w distance (omega (arith, count, sum, total-near))
+            second-jumping sides w distance (omega (arith, count, sum, whole-near))
 
-        pub right-sized : Sized (size flag) (r (t .next)) (total - left)
+        pub right-sized : Sized (size flag) (r (t .next)) (whole - left)
         unfolding sides
         right-sized = sized (size flag) (second-read sides w) right-is

@@ -131,27 +131,27 @@ fn reach(flag: bool, right: usize, distance: usize) -> usize
 }
 
 // And's records: the left side's, which jump over the right side's where the left is false, and the right side's. Of
-// And's `total` records the right side has what the left side has not.
+// And's `whole` records the right side has what the left side has not.
 fn write_and(
     text: &[u8],
     at: usize,
     nest: usize,
     flag: bool,
     distance: usize,
-    total: usize,
+    whole: usize,
     sizes: &mut [u32; SLOTS],
     out: &mut [u8],
 ) -> PartSize
     requires { ⌜ getD (now text) at 0 ≡ 0x22 ⌝ }
     requires { ⌜ Writable (jumping flag distance) distance (condition (now text) nest at) (now out) ⌝ }
-    requires { ⌜ Sized (λ b. condition-records b flag) (condition (now text) nest at) total ⌝ }
+    requires { ⌜ Sized (λ b. condition-records b flag) (condition (now text) nest at) whole ⌝ }
     requires { ⌜ ConditionSizes (now text) (now sizes) ⌝ }
     ensures { λ r. ⌜ Writes (jumping flag distance) (condition (now (text .entry)) nest at) (now (out .entry))
         (now (out .exit)) r ⌝ }
     ensures { λ _. ⌜ ConditionSizes (now (text .entry)) (now (sizes .exit)) ⌝ }
 {
     let left = known_size(text, at + 1, nest - 1, sizes);
-    let right = total - left;
+    let right = whole - left;
     let over = reach(flag, right, distance);
     let first = write_condition(text, at + 1, nest - 1, false, over, left, sizes, out);
     let middle = first.next;
@@ -169,23 +169,23 @@ fn write_and(
     );
     PartSize {
         next: second.next,
-        records: total,
+        records: whole,
     }
 }
 
-// A condition's records under a flag, `total` of them: they jump over `distance` records where its value is the flag.
+// A condition's records under a flag, `whole` of them: they jump over `distance` records where its value is the flag.
 pub fn write_condition(
     text: &[u8],
     at: usize,
     nest: usize,
     flag: bool,
     distance: usize,
-    total: usize,
+    whole: usize,
     sizes: &mut [u32; SLOTS],
     out: &mut [u8],
 ) -> PartSize
     requires { ⌜ Writable (jumping flag distance) distance (condition (now text) nest at) (now out) ⌝ }
-    requires { ⌜ Sized (λ b. condition-records b flag) (condition (now text) nest at) total ⌝ }
+    requires { ⌜ Sized (λ b. condition-records b flag) (condition (now text) nest at) whole ⌝ }
     requires { ⌜ ConditionSizes (now text) (now sizes) ⌝ }
     ensures { λ r. ⌜ Writes (jumping flag distance) (condition (now (text .entry)) nest at) (now (out .entry))
         (now (out .exit)) r ⌝ }
@@ -214,7 +214,7 @@ pub fn write_condition(
             bare.nest,
             bare.flag,
             distance,
-            total,
+            whole,
             sizes,
             out,
         );

@@ -36,15 +36,15 @@ pub size-told : {A : Type 0} {records : A → ℕ} {read : Outcome ℕ Refusal A
     → Sized records read (t .records)
 size-told c a n e = c a n e .1
 
--- Two parts that were read in a row, from i up to n, with sizes that sum up to `total`
+-- Two parts that were read in a row, from i up to n, with sizes that sum up to `whole`
 pub record Pair {A B C : Type 0} (r : Reader A) (s : Reader B) (f : A → B → C) (c : C) (one : A → ℕ) (other : B → ℕ)
-    (more i n total : ℕ) : Type 0 where
+    (more i n whole : ℕ) : Type 0 where
   pub parts : Two (r i) s f c n
-  pub sum : total ≡ one (parts .one) + other (parts .two) + more
-  pub few : total < 2147483648
+  pub sum : whole ≡ one (parts .one) + other (parts .two) + more
+  pub few : whole < 2147483648
 
 module _ {A B C : Type 0} {r : Reader A} {s : Reader B} {f : A → B → C} {c : C} {one : A → ℕ} {other : B → ℕ}
-    {more i n total : ℕ} (p : Pair r s f c one other more i n total) where
+    {more i n whole : ℕ} (p : Pair r s f c one other more i n whole) where
   pub first-countable : Countable one (r i)
   first-countable =
       let q = p .parts in
@@ -59,7 +59,7 @@ module _ {A B C : Type 0} {r : Reader A} {s : Reader B} {f : A → B → C} {c :
   -- Both were counted
   pub record Both (t u : PartSize) : Type 0 where
     pub ends : u .next ≡ n
-    pub all : t .records + u .records + more ≡ total
+    pub all : t .records + u .records + more ≡ whole
     pub few : t .records + u .records + more < 2147483648
 
   pub both : {t u : PartSize} → Counts one (r i) t → Counts other (s (t .next)) u → Both t u

@@ -72,8 +72,8 @@ module _ {text : List ℕ} {deepest : ℕ} {under : Bool} {read : Outcome ℕ Re
       let r = c _ _ (p .read) in
       (r .0, r .1 ∙ same-size p)
 
-  pub sized-behind : {b : Condition} {n total : ℕ} → read ≡ ok b n → Sized (size under) read total
-      → Sized (size (told .flag)) (condition text (told .nest) (told .at)) total
+  pub sized-behind : {b : Condition} {n whole : ℕ} → read ≡ ok b n → Sized (size under) read whole
+      → Sized (size (told .flag)) (condition text (told .nest) (told .at)) whole
   sized-behind e s =
       let p = h _ _ e in
       sized (size (told .flag)) (p .read) (s _ _ e ∙ sym (same-size p))

@@ -92,14 +92,14 @@ times-set (y ∷ t) (suc v) x h e p = by (eqb y 0) (times-set t v x (omega arith
     by true q = omega arith
     by false q = q
 
-abbrev total : ℕ × List ℕ → ℕ
-total p = times 0 (p .1) + p .0
+abbrev counted : ℕ × List ℕ → ℕ
+counted p = times 0 (p .1) + p .0
 
-total-kept : (v n : ℕ) (t : List ℕ) → v < length t → total (n, t) ≡ 64 → total (addressed v n t) ≡ 64
+all-kept : (v n : ℕ) (t : List ℕ) → v < length t → counted (n, t) ≡ 64 → counted (addressed v n t) ≡ 64
 unfolding addressed
-total-kept v n t h e = by (eqb (getD t v 0) 0) refl
+all-kept v n t h e = by (eqb (getD t v 0) 0) refl
   where
-    by : (b : Bool) → eqb (getD t v 0) 0 ≡ b → total (if b then (n + 1, set t v (n + 1)) else (n, t)) ≡ 64
+    by : (b : Bool) → eqb (getD t v 0) 0 ≡ b → counted (if b then (n + 1, set t v (n + 1)) else (n, t)) ≡ 64
     by true q = omega (arith, e, times-set t v (n + 1) h (eqb-true (getD t v 0) 0 q) (omega arith))
     by false q = e
 
@@ -153,7 +153,7 @@ module _ (P : AssemblyCode) where
           most = omega (arith, s .most);
           cells = ap (λ (p : ℕ × List ℕ). p .0) step;
           table-is = ap (λ (p : ℕ × List ℕ). p .1) step;
-          all = ap total q ∙ total-kept (v .0) n t (omega (arith, stage-long s)) (s .all);
+          all = ap counted q ∙ all-kept (v .0) n t (omega (arith, stage-long s)) (s .all);
         }
 
     -- or none.

@@ -1,4 +1,5 @@
-// From assembly records to machine records, in place. `rename_records` serves the way back too.
+// The second compiling stage: addresses and the table, and assembly records turned into machine records in place.
+// `rename_records` serves the way back too.
 use record::Address;
 use record::LOADI;
 use record::MLOADI;

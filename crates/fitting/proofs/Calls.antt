@@ -98,13 +98,15 @@ module _ (code : List ℕ) (memory : List ℤ) (D : ℕ) (t : List ℕ) (store :
 
     -- ---- The run on a copy of the memory, and reading back over a copy of the store
 
-    module _ (budget : ℕ) {a : Answer Ran} {m : List ℤ} (ran : (a, m) ≡ without-state (run-machine code memory D n budget)) where
+    module _ (budget : ℕ) {a : Answer Ran} {m : List ℤ}
+        (ran : (a, m) ≡ without-state (run-machine code memory D n budget)) where
       pub reads-back : (gives n, read-back t D store m) ≡ read-back-call t m D store
       unfolding read-back-call
       reads-back =
           let left : m ≡ machine-run P memory D budget .leaves .memory =
           ap (λ x. x .1) (ran ∙ sym (machine-runs code memory D n budget (p .records))) in
-          settled (pod-tests t store D m) _ _ store (pod-passed m (ap length left ∙ keeps-length P memory D budget)) refl
+          settled (pod-tests t store D m) _ _ store
+          (pod-passed m (ap length left ∙ keeps-length P memory D budget)) refl
 
       pub previews : (a, read-back t D store m) ≡ preview-machine code memory D t store budget
       unfolding preview-machine

@@ -32,7 +32,8 @@ use Rattle.fitting.specs.Calls.{table-tests, pod-tests, load, read-back-
 use Rattle.fitting.specs.Rows.{fit, four-calls}
 use Rattle.fitting.specs.Paired.{paired-tests, run-paired}
 use Rattle.fitting.specs.Cases.{cases, measured, by-rules, by-machine, Profiles, MemoryOfI, LoadDeclines}
-use Rattle.fitting.specs.Cases.{ReadBackDeclines, PreviewsOfB, PreviewDeclines, PairedEnds, PairedOfB, PairedDeclines}
+use Rattle.fitting.specs.Cases.{ReadBackDeclines, PreviewsOfB, PreviewDeclines, PairedEnds, PairedOfB}
+use Rattle.fitting.specs.Cases.{PairedDeclines}
 
 pub memory-of-I : MemoryOfI
 unfolding put fill

@@ -153,7 +153,8 @@ module _ (code t : List ℕ) (store : Store) (D budget : ℕ) where
         → (a, read-back t D store m) ≡ run-paired code t store D budget
     pair-runs-by e =
         ap (λ (r : Answer Ran × List ℤ). (r .0, read-back t D store (r .1)))
-        (e ∙ sym (machine-runs code (loaded t D (named-in t) store) D (named-in t) budget (finds-records code t store D f)))
+        (e ∙ sym (machine-runs code (loaded t D (named-in t) store) D (named-in t) budget
+        (finds-records code t store D f)))
         ∙ pair-runs
 
 -- ---- What is claimed
@@ -178,7 +179,8 @@ refusals code t store s D budget number place (gives z) e f =
     not-both (sym (ap (λ (r : Answer Ran × Store). r .0) (runs ∙ f)))
 refusals code t store s D budget number place (refused k p) e f =
     let both-are = pair-declines code t store D budget e ∙ f in
-    let answers : _≡_ {A = Answer Ran} (refused k p) (refused number place) = ap (λ (r : Answer Ran × Store). r .0) both-are in
+    let answers : _≡_ {A = Answer Ran} (refused k p) (refused number place) = ap
+    (λ (r : Answer Ran × Store). r .0) both-are in
     (cc, sym (ap (λ (r : Answer Ran × Store). r .1) both-are))
 
 pub paired-refusals : PairedRefusals
@@ -276,5 +278,6 @@ paired-fitted text code t D pair store budget =
         ∙ ap (λ (r : Result Store). (gives (report budget r), r .leaves)) (translated sum32 c valid store long budget)
         ∙ sym (source-runs text c store budget (by-command pair .reads) long)
     by (no short) =
-        sym (pair-declines (machine-bytes c) (table (ccomp c)) store (depth c) budget (not-64 c (within pair) store short))
+        sym (pair-declines (machine-bytes c) (table (ccomp c)) store (depth c) budget
+        (not-64 c (within pair) store short))
         ∙ sym (source-declines text c store budget (by-command pair .reads) short)

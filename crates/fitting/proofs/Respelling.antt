@@ -82,7 +82,8 @@ module _ (text other : List ℕ) (c d : Command) (e : read-text text ≡ gives c
   unfolding fit-in-pieces
   fit-in-pieces-same lent b bs = rw (compile-same (record { code = lent .code; table = lent .table })) refl
 
-  preview-loaded-same : (lent : Lent) (budget : ℕ) → load-and-preview text lent budget ≡ load-and-preview other lent budget
+  preview-loaded-same : (lent : Lent) (budget : ℕ) → load-and-preview text lent budget
+      ≡ load-and-preview other lent budget
   unfolding load-and-preview
   preview-loaded-same lent budget = rw (compile-same (record { code = lent .code; table = lent .table })) refl
 

@@ -40,7 +40,7 @@ use Rattle.fitting.specs.Demand3.{Ready}
 use Rattle.fitting.proofs.Loading.{length-loaded}
 use Rattle.fitting.proofs.Calls.{previews}
 
--- ---- Loading, running and reading back, of a table, a store and code that pass their tests: none of the three declines.
+-- ---- Loading, running and reading back, of a table, a store and code that pass their tests: none declines.
 
 module _ (code t : List ℕ) (memory : List ℤ) (store : Store) (k D n budget : ℕ) {P : MachineCode}
     (names : table-tests t store ≡ gives n)

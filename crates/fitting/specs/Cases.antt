@@ -151,7 +151,7 @@ MemoryOfI =
 abbrev pub one-entry : List ℕ
 one-entry = 1 ∷ replicate 63 0
 
--- load, of a table, a store, D and a memory: number and place, and the memory as it was. Where there are two faults,
+-- load, of a table, a store, D and a memory: number and place, and the memory as it was. Where two refusals are due,
 -- the first in order is given.
 pub record LoadDeclines : Type 0 where
   -- 8: a store of 63 cells; a table of 63 bytes

@@ -1,2 +1,2 @@
-// Loading and reading back, calls in a row, code and its table in one call, the simulation, demand 3. These stand in
-// specs/.
+// Loading and reading back, previews, calls in a row, code and its table in one call, the simulation, demand 3, in
+// pieces too. These stand in specs/.

@@ -79,5 +79,6 @@ same-assembly text bytes l l′ x e c read long room enough =
 
     row : compile-and-go-back text l ≡ (back .0, back-buffers (left .code) (left .table) (back .1))
     row =
-        sym (goes-on (λ (k : Compiled). back-buffers (k .code) (k .table) (l .out)) _ {R = compile text first} refl given
+        sym (goes-on (λ (k : Compiled). back-buffers (k .code) (k .table) (l .out)) _
+        {R = compile text first} refl given
         (is-last (back-buffers (left .code) (left .table)) {R = back} refl))

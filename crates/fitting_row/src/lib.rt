@@ -1,4 +1,4 @@
-// The four calls in a row, as the pod makes them: compile, load, run, read back.
+// The four calls of demand 3 in a row: compile, load, run, read back.
 use base::Count;
 use base::Run;
 use record::RECORD_BYTES;

@@ -198,4 +198,5 @@ inspects code D n k j memory long budget = safely code D n k memory long budget 
 
 pub inspects-in-pieces : InspectsInPieces
 inspects-in-pieces code D n k j memory long b bs fits =
-    subst (RunsSafely code D n) (sym (pieces code memory D n b bs fits)) (inspects code D n k j memory long (total b bs))
+    subst (RunsSafely code D n) (sym (pieces code memory D n b bs fits))
+    (inspects code D n k j memory long (total b bs))

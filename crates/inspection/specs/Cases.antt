@@ -44,7 +44,7 @@ pub record CodesFail : Type 0 where
 
 -- ---- Where the call declines: 9, 10, 11, 13
 
--- After the code stand D and n. Where there are two faults, the first in order is given.
+-- After the code stand D and n. Where two refusals are due, the first in order is given.
 pub record InspectDeclines : Type 0 where
   -- no records: none to count
   pub nothing : Inspected [] 0 0 (gives 0)

@@ -33,7 +33,8 @@ module _ {Name : Type 0} (k : Kind Name) where
   unknown-record i r e f = nothing (sym (ap (λ o. record-of k o i) e) ∙ f)
 
   -- The number of a record tells what it takes and puts, and with its operand where it leads.
-  numbered-told : (j : ℕ) (i : ℤ) (r : Record Name) → record-of k (numbered j) i ≡ some r → numbered-effect j i ≡ effect r
+  numbered-told : (j : ℕ) (i : ℤ) (r : Record Name) → record-of k (numbered j) i ≡ some r → numbered-effect j i
+      ≡ effect r
   unfolding numbered record-of effect
   numbered-told zero i r e = let is : LOADI i ≡ r = cc in ap effect is
   numbered-told (suc zero) i r e = ap effect (sym (as-named k LOAD i r e .record-is))

@@ -163,7 +163,8 @@ room-is count budget h = by (decLt 4294967295 (count + budget))
     by : Dec (4294967295 < count + budget) → leb (count + budget) 4294967295 ≡ leb count (4294967295 - budget)
     by (yes l) = lt-leb _ _ l ∙ sym (lt-leb count (4294967295 - budget) (omega (arith, l)))
     by (no l) =
-        le-leb (count + budget) 4294967295 (omega (arith, l)) ∙ sym (le-leb count (4294967295 - budget) (omega (arith, l)))
+        le-leb (count + budget) 4294967295 (omega (arith, l)) ∙ sym
+        (le-leb count (4294967295 - budget) (omega (arith, l)))
 
 -- A run from a state that passes
 abbrev pub Bounded : MachineCode → ℕ → State → List ℤ → Type 0
@@ -335,7 +336,8 @@ module _ (code : List ℕ) (m : List ℤ) (D n budget : ℕ) where
       let r = machine-run P m D budget in
       (λ i. (gives (ran (r .end) (sym (zero-add (budget - r .left)) i) (r .mark)), r .leaves .memory))
       ∙ (λ i. (gives (sym (told-ran (r .end) (0 + (budget - r .left)) (r .mark) (r .leaves)) i), r .leaves .memory))
-      ∙ ap without-state (state-runs code m D n fresh-state budget (state-passes code m D n fresh-state budget (fresh-found e)))
+      ∙ ap without-state (state-runs code m D n fresh-state budget
+      (state-passes code m D n fresh-state budget (fresh-found e)))
 
 -- A run keeps the memory's length.
 pub keeps-length : (P : MachineCode) (m : List ℤ) (D budget : ℕ)

@@ -9,7 +9,8 @@ use Rattle.word.specs.Targets.{within, target}
 use Rattle.record.specs.Bytes.{operation, name-of, option-map, is-zero, record-of, in-front, records-from}
 use Rattle.machine.specs.Machine.{taken, pop, push, held, keep, in-range, next, land, jump, act, after, run-at}
 use Rattle.machine.specs.Machine.{run}
-use Rattle.machine.specs.Calls.{assembly-tests, run-assembly, machine-tests, tell, state-tests, go-on, run-machine}
+use Rattle.machine.specs.Calls.{assembly-tests, run-assembly, machine-tests, tell, state-tests, go-on}
+use Rattle.machine.specs.Calls.{run-machine}
 use Rattle.machine.specs.Calls.{ran-of}
 use Rattle.machine.specs.Pieces.{after-piece, in-pieces}
 use Rattle.machine.specs.Cases.{rows, EndsCome, AssemblyDeclines, MachineDeclines, Pauses, StateDeclines}

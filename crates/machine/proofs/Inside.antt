@@ -184,7 +184,8 @@ inside sum D o code n μ s h =
     keeps sum D o code (λ _. Unit {0}) (record { saved = λ m x z q. tt; poked = λ m i z l q. tt }) n μ s (h, tt) .0
 
 -- from a fresh machine
-pub fresh-inside : {M Name : Type 0} (sum : SumRule) (D : ℕ) (o : Memory M Name) (code : List (Record Name)) (n : ℕ) (m : M)
+pub fresh-inside : {M Name : Type 0} (sum : SumRule) (D : ℕ) (o : Memory M Name) (code : List (Record Name)) (n : ℕ)
+    (m : M)
     → let r = run sum D o code n 0 (fresh m) in InBounds sum D o code (r .mark) (r .leaves)
 fresh-inside sum D o code n m =
     inside sum D o code n 0 (fresh m) (record { placed = omega arith; held = omega arith; marked = omega arith })

@@ -1,6 +1,6 @@
 -- The calls `run_assembly` and `run_machine` (document 01, "Executors"), which "run from a fresh machine", and `go_on`
--- (document 02, W7), which runs on from the state of a paused run. `run_machine` is `go_on` from a fresh machine, so it
--- stands last.
+-- (document 02, W7), which runs on from the state of a paused run. `run_machine` is `go_on` from a fresh machine, and
+-- stands after it.
 use mathlib.Core.Path.{_≡_}
 use mathlib.Core.Logic.{_⊎_, _↔_}
 use Prim.Native.Nat.{ℕ, _+_, _-_, _≤_, _<_}

@@ -79,7 +79,7 @@ lent stack store = record { stack = replicate stack (pos 8); store = replicate s
 abbrev pub done-at-0 : Answer Ran
 done-at-0 = gives (ran done 0 0)
 
--- Number and place, and the stack and the store as they were. Where there are two faults, the first in order is given.
+-- Number and place, and the stack and the store as they were. Where two refusals are due, the first in order is given.
 pub record AssemblyDeclines : Type 0 where
   -- 9: 4 bytes
   pub nine : run-assembly (replicate 4 0x40) (lent 1 64) 9 ≡ (refused 9 0, lent 1 64)
@@ -107,7 +107,7 @@ pub record AssemblyDeclines : Type 0 where
 abbrev pub memory : ℕ → List ℤ
 memory k = replicate k (pos 8)
 
--- Number and place, and the memory as it was. After the memory stand D, n and the budget. Where there are two faults,
+-- Number and place, and the memory as it was. After the memory stand D, n and the budget. Where two refusals are due,
 -- the first in order is given.
 pub record MachineDeclines : Type 0 where
   -- 9: 4 bytes
@@ -194,7 +194,7 @@ pub record Pauses : Type 0 where
 abbrev pub from-state : State → ℕ → Answer Told × List ℤ
 from-state s budget = go-on forever (memory 3) 2 0 s budget
 
--- Number and place, and the memory as it was. Before the budget stands the state. Where there are two faults, the first
+-- Number and place, and the memory as it was. Before the budget stands the state. Where two refusals are due, the first
 -- in order is given.
 pub record StateDeclines : Type 0 where
   -- 15: a position past the end; a stack size above the mark; a mark above D; a count that with the budget passes

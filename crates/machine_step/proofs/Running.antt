@@ -323,6 +323,7 @@ module _ (D : ℕ) (P : MachineCode) (budget : ℕ) (s : State) (m : List ℤ) w
 
       count : r .machine .count ≡ s .count + (budget - (limit - r .machine .count))
       count =
-          let left : limit - r .machine .count ≡ R .left = ap (λ (r : Result (Rules.Machine (List ℤ))). r .left) whole in
+          let left : limit - r .machine .count ≡ R .left = ap
+          (λ (r : Result (Rules.Machine (List ℤ))). r .left) whole in
           let most = left-most sum32 D (machine-cells D) P budget (s .mark) (at (s .position) (s .size) m) in
           omega (arith, within, is-limit, most)

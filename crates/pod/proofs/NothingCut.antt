@@ -63,7 +63,8 @@ module _ (code t out : List ℕ) where
       small-unless length (is-table t) 12 _ (omega arith) (λ _.
       tested w (records-of (machine-kind (named-in t)) code) refl)))
 
-  by-tests : (x : Answer MachineCode) (f : MachineCode → List ℕ) → Small length x → Small (λ n. n) (settle x length f out .0)
+  by-tests : (x : Answer MachineCode) (f : MachineCode → List ℕ) → Small length x → Small (λ n. n)
+      (settle x length f out .0)
   unfolding settle
   by-tests (gives P) f h = h
   by-tests (refused number place) f h = h

@@ -1,4 +1,4 @@
-// The answers of calls as one number (Packing).
+// The answers of calls packed into one number, as Packing says.
 use base::Count;
 use base::End;
 use base::Refusal;

@@ -125,7 +125,11 @@ module _ (text : List ℕ) (bytes : Bytes text) (z : Sizes) (r : Read text z) wh
       sizes = z;
       compiles =
           sym compiling
-          ∙ (λ i. ((ap (λ (p : Answer Sizes × Compiled). p .0) compiles ∙ ap gives (sym (r .tells))) i, code-and-table m′ t′));
+          ∙ (λ i. (
+            (ap (λ (p : Answer Sizes × Compiled). p .0) compiles ∙ ap gives (sym (r .tells))) i,
+            code-and-table
+                m′ t′,
+          ));
       code-is = refl;
       table-is = refl;
       depth-is = refl;
@@ -135,7 +139,8 @@ module _ (text : List ℕ) (bytes : Bytes text) (z : Sizes) (r : Read text z) wh
     not-refused : (number place : ℕ) → x ≡ refused number place → ⊥
     unfolding zeros
     not-refused number place f =
-        not-both (sym f ∙ ap (λ (p : Answer Ran × Store). p .0) (sym same-run ∙ source-runs text c zeros 1000000 (r .read) refl))
+        not-both (sym f ∙ ap (λ (p : Answer Ran × Store). p .0)
+        (sym same-run ∙ source-runs text c zeros 1000000 (r .read) refl))
 
     -- and these are the lines.
     lines-shown : (ran : Ran) → x ≡ gives ran

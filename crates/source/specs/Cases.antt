@@ -50,7 +50,7 @@ Forever = (budget : ℕ) (s : Store) → length s ≡ 64
 abbrev pub sevens : ℕ → Store
 sevens k = replicate k (pos 7)
 
--- Number and place, and the store as it was. Where there are two faults, the first in order is given.
+-- Number and place, and the store as it was. Where two refusals are due, the first in order is given.
 pub record Declines : Type 0 where
   -- 8: B with a store of 63 cells, and of 65
   pub eight : run-source B·text (sevens 63) 9 ≡ (refused 8 0, sevens 63)

@@ -13,7 +13,8 @@ use Rattle.text.proofs.Opened.{One, Two, Three}
 use Rattle.source.specs.Rules.{Early, spent, State, Ending, Rule, tick, exec}
 use Rattle.source.proofs.Passes as Passes
 use Rattle.source_values.specs.Placed.{Read, _upto_, placed, reaching}
-use Rattle.source_values.proofs.Steps.{left-so, one-on, tick-none, tick-one, placed-is, gave, stopped, begin-ended, begin-ok}
+use Rattle.source_values.proofs.Steps.{left-so, one-on, tick-none, tick-one, placed-is, gave, stopped, begin-ended}
+use Rattle.source_values.proofs.Steps.{begin-ok}
 use Rattle.source_values.proofs.Steps.{second-read, then-ended, then-ok}
 use Rattle.source_values.proofs.Compound.{valuing, under}
 use Rattle.source_commands.specs.Code.{storing}

@@ -60,7 +60,8 @@ module _ (text : List ℕ) (store : Store) where
   tests-passed e h = e ∙ simp (read-gives text e .1, eq-eqb (length store) 64 h)
 
   -- and what they say: the call declines, and so does its preview,
-  module _ (budget : ℕ) {x : Reading} {why : Refusal} (tested : sizes-answer x ≡ tests) (declines : x ≡ Refused why) where
+  module _ (budget : ℕ) {x : Reading} {why : Refusal} (tested : sizes-answer x ≡ tests)
+      (declines : x ≡ Refused why) where
     refuses : source-tests text store ≡ refused (why .number) (why .place)
     refuses = refused-first (source-tests text store) sizes (sym tested ∙ ap sizes-answer declines)
 
@@ -156,4 +157,5 @@ laid text old {c = c} is long holds = record {
 pub runs-laid : {text buffer : List ℕ} (budget : ℕ) (store : Store) {x : Answer Ran × Store} → Laid text buffer
     → Runs buffer budget store x → (c : Command) → read-text text ≡ gives c → x ≡ runs c budget store
 runs-laid budget store l h c is =
-    h (l .text-command) (laid-part l .0) (laid-part l .1) ∙ ap (λ c. runs c budget store) (gives-one _ _ (sym (l .is) ∙ is))
+    h (l .text-command) (laid-part l .0) (laid-part l .1) ∙ ap (λ c. runs c budget store)
+    (gives-one _ _ (sym (l .is) ∙ is))

@@ -1,5 +1,5 @@
 -- What reading gives for profiles A to K and for the examples of refusals, by computation (Cases: Readings, Refusals,
--- Places, FirstFault, OneByteConstants).
+-- Places, FirstRefusal, OneByteConstants).
 use mathlib.Core.Path.{refl}
 use Rattle.base.specs.Acts.{then′, give}
 use Rattle.base.specs.Answers.{and-then}
@@ -11,7 +11,7 @@ use Rattle.text.specs.Sizes.{expression-records, condition-records, reco
 use Rattle.text.specs.Sizes.{depth, expression-names, condition-names, names, how-many}
 use Rattle.text.specs.Calls.{read-call}
 use Rattle.text.specs.Cases.{A·text, B·text, C·text, D·text, E·text, F·text, G·text, H·text, I·text}
-use Rattle.text.specs.Cases.{J·text, K·text, texts, Readings, Refusals, Places, FirstFault, OneByteConstants}
+use Rattle.text.specs.Cases.{J·text, K·text, texts, Readings, Refusals, Places, FirstRefusal, OneByteConstants}
 
 pub readings : Readings
 unfolding texts A·text B·text C·text D·text E·text F·text G·text H·text I·text J·text K·text
@@ -52,11 +52,11 @@ places = record {
   longest = refl;
 }
 
-pub first-fault : FirstFault
+pub first-refusal : FirstRefusal
 unfolding then′ give and-then
     expression-byte condition-byte command-byte decline there due pass operand number-due number
     expression-of expression condition-of condition command-of command all-read read-text read-call
-first-fault = record {
+first-refusal = record {
   six-reading = refl;
   one-four = refl;
   one-four-condition = refl;

@@ -109,9 +109,9 @@ pub record Places : Type 0 where
   -- 6: 4,096 bytes are not too many
   pub longest : read-call (replicate 4096 0x00) ≡ refused 5 1
 
--- Two faults at once, of which the first in order is given: 6, then reading, which "goes left to right; at a construct
--- 1, 4, 2, then its operand 1, 3; at the end 5".
-pub record FirstFault : Type 0 where
+-- Two refusals due at once, of which the first in order is given: 6, then reading, which "goes left to right; at a
+-- construct 1, 4, 2, then its operand 1, 3; at the end 5".
+pub record FirstRefusal : Type 0 where
   -- 6, and 2 at 0: 4,097 bytes `7F`
   pub six-reading : read-call (replicate 4097 0x7f) ≡ refused 6 0
   -- 1, and 4: 64 bytes `02`; the text ends, and the command due is at nesting 65. The same of a condition and an

@@ -164,7 +164,7 @@ fn two_expressions(text: &[u8], at: usize, nest: usize, named: &mut [u8; VARIABL
 }
 
 // What begins with none of the other bytes: a one-byte constant, since of 10 to 13 only 13 is left, or no expression.
-// (With a test of equality here the four bytes become a table of jumps, and reading is slower by a tenth.)
+// (With a test of equality here the four bytes become a table of jumps, and reading is slower.)
 fn one_byte_constant(text: &[u8], at: usize) -> PartReading
     requires { ⌜ at < length (now text) ⌝ }
     requires { ⌜ (getD (now text) at 0 ≡ 0x10 → ⊥) ⌝ }

@@ -13,7 +13,8 @@ use Rattle.base.specs.Acts.{if_then_else_}
 use Rattle.text_ends.specs.Ends.{times, first}
 
 module _ (b : ℕ) (text : List ℕ) (i : ℕ) where
-  here : i < length text → first b (drop i text) ≡ (if eqb (getD text i 0) b then 0 else suc (first b (drop (i + 1) text)))
+  here : i < length text → first b (drop i text) ≡
+      (if eqb (getD text i 0) b then 0 else suc (first b (drop (i + 1) text)))
   unfolding first
   here h = rw (add-one i, drop-cons text i 0)
 
@@ -30,7 +31,8 @@ module _ (b : ℕ) (text : List ℕ) (i : ℕ) where
 
   -- how often
   this : i < length text
-      → times b (drop i text) ≡ (if eqb (getD text i 0) b then suc (times b (drop (i + 1) text)) else times b (drop (i + 1) text))
+      → times b (drop i text) ≡ (if eqb (getD text i 0) b then suc (times b (drop (i + 1) text)) else times b
+      (drop (i + 1) text))
   unfolding times
   this h = rw (add-one i, drop-cons text i 0)
 

@@ -161,7 +161,7 @@ module _ (t : ℕ) where
   and-next-fits s = omega (arith, and-opened s .inside, s .good .0 .0)
 
   both : (s : In-write-and t and-lts.Start) →
-      Sides (condition (s .args .text .now) (s .args .nest - 1)) (s .args .flag) (s .args .distance) (s .args .total)
+      Sides (condition (s .args .text .now) (s .args .nest - 1)) (s .args .flag) (s .args .distance) (s .args .whole)
       (s .args .at + 1) (s .pre .1 .1 .0 .next) (s .pre .1 .1 .0 .part) (s .args .out .now)
   both s =
       let q = s .pre .1 .1 .0 in

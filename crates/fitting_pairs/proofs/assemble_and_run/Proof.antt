@@ -26,7 +26,8 @@ returns c =
     let e = ends-there (λ code. assembly-buffers code (lent s .memory)) _ (first .assemble .ensures)
     (ap sizes-answer (no .refusal .given .1)) in (
       e,
-      same-run (s .args .text .now) (λ i. omega (arith, bytes .shared-slice-known .given i)) (lent s) _ (s .args .budget) _ e,
+      same-run (s .args .text .now) (λ i. omega (arith, bytes .shared-slice-known .given i)) (lent s) _
+          (s .args .budget) _ e,
     )
 
 returns-2 : tie.Need-returns-2
@@ -40,7 +41,8 @@ returns-2 c =
     let e = goes-on (λ code. assembly-buffers code (lent s .memory)) _ (first .assemble .ensures)
     (ap sizes-answer (given .sizes .given .1)) (is-last (assembly-buffers _) (ran .run-records .ensures)) in (
       e,
-      same-run (s .args .text .now) (λ i. omega (arith, bytes .shared-slice-known .given i)) (lent s) _ (s .args .budget) _ e,
+      same-run (s .args .text .now) (λ i. omega (arith, bytes .shared-slice-known .given i)) (lent s) _
+          (s .args .budget) _ e,
     )
 
 pub assemble-and-run-spec : {M : Type 1} → statement M

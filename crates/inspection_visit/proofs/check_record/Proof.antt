@@ -70,7 +70,8 @@ module _ (c : tie.After-wide) where
 
   abbrev here : ℕ → Checked
   here j =
-      checked (start .args .depth) (start .args .last) (start .args .at) (start .args .height) (numbered-effect j operand)
+      checked (start .args .depth) (start .args .last) (start .args .at) (start .args .height)
+      (numbered-effect j operand)
 
   as-read : {result : Checked} → result ≡ here (c .wide .result)
       → result ≡ checked-at (start .args .code .now) (start .args .last) (start .args .depth) (start .args .at)

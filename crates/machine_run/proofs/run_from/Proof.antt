@@ -15,7 +15,8 @@ finish-requires c κs =
     let made : tie.After-resumed = search in
     let a : tie.Start = search in
     let s = a .args in
-    let f = state-tested (s .code .now) (s .memory .now) (s .depth) (a .pre .0) (s .state) (a .pre .1) (a .pre .2 .0) in (
+    let f = state-tested (s .code .now) (s .memory .now) (s .depth) (a .pre .0) (s .state) (a .pre .1)
+    (a .pre .2 .0) in (
       subst
           (λ (m : Machine). Starts m (s .depth) (s .last) (s .limit))
           (sym (made .resumed .ensures))

@@ -10,7 +10,8 @@ runs c =
     let made : tie.After-fresh = search in
     let a : tie.Start = search in
     let s = a .args in
-    from-fresh (s .code .now) (s .memory .now) (s .depth) (s .cells) (s .budget) (made .fresh .ensures) (run .go-on .ensures)
+    from-fresh (s .code .now) (s .memory .now) (s .depth) (s .cells) (s .budget) (made .fresh .ensures)
+    (run .go-on .ensures)
 
 pub run-machine-spec : {M : Type 1} → statement M
 run-machine-spec = tie.close (tie.spec (λ c κs. search needs) (λ c κs. search needs) (λ c. search needs) runs)

@@ -35,7 +35,11 @@ returns c =
     let stops = value-told _ 0 μ _ (z .end .given .1) (e .right-side .ensures 0 μ (omega arith)) in
     let high : c .raise .last .0 ≡ max μ (0 + z .end .given .0 .1 .0) = omega (arith, c .raise .ensures) in (
       ap
-          (λ k. ended (early (z .end .given .0 .0), ending (e .right-side .last .1 .1 .1 .1 .0) k (s .args .store .now)))
+          (λ k. ended (
+            early (z .end .given .0 .0),
+            ending (e .right-side .last .1 .1 .1 .1 .0) k
+                (s .args .store .now),
+          ))
           high
           ∙ sym (assign-ended _ (s .pre .1 .1 .0 .is) (parts s .2) _ stops),
       s .pre .1 .1 .1,

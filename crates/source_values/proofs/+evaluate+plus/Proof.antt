@@ -215,7 +215,11 @@ pub +evaluate+plus-spec : {M : Type 1} → statement M
           let left = value-told _ h μ _ (x .x .given .1) (e .evaluate .ensures .0 h μ l) in
           let stops = value-told _ (suc h) _ _ (z .end2 .given .1)
           (f .evaluate2 .ensures .0 (suc h) (max μ (h + x .x .given .0 .1 .0)) (omega (arith, some .0))) in
-          ap (λ k. ended (early (z .end2 .given .0 .0), ending (f .evaluate2 .last .1 .1 .1 .1 .0) k (s .args .store .now)))
+          ap (λ k. ended (
+            early (z .end2 .given .0 .0),
+            ending (f .evaluate2 .last .1 .1 .1 .1 .0) k
+                (s .args .store .now),
+          ))
           (joined h μ (x .x .given .0 .1 .0) (z .end2 .given .0 .1 .0) top)
           ∙ sym (second-ended valuing summing plus-does (s .pre .1 .1 .1 .is) (sides t s) _ left stops),
       omega (arith, some .1),
@@ -244,7 +248,8 @@ pub +evaluate+plus-spec : {M : Type 1} → statement M
           (f .evaluate2 .ensures .0 (suc h) (max μ (h + x .x .given .0 .1 .0)) (omega (arith, some .0))) in
           let high = joined h μ (x .x .given .0 .1 .0) (y .y .given .0 .1 .0) top in
           c .summed .ensures .0 h μ m
-          ∙ (λ i. reaching (y .y .given .0 .1 .1 .0) (summing (x-fits i) (y-fits i) (state rest (suc (suc h)) (high i) m)))
+          ∙ (λ i. reaching (y .y .given .0 .1 .1 .0)
+          (summing (x-fits i) (y-fits i) (state rest (suc (suc h)) (high i) m)))
           ∙ sym (both-ok valuing summing plus-does (s .pre .1 .1 .1 .is) (sides t s) _ left right),
       within-more (c .summed .result) (g .larger2 .result) (s .args .nest) (omega (arith, some .1, most .1))
           (c .summed .ensures .1),

@@ -32,7 +32,8 @@ returns c flag =
     let μ = s .args .mark .now in
     let stops = value-told _ 0 μ _ (z .end .given .1) (e .evaluate .ensures .0 0 μ (omega arith)) in
     let high : c .raise .last .0 ≡ max μ (0 + z .end .given .0 .1 .0) = omega (arith, c .raise .ensures) in
-    ap (λ k. ended (early (z .end .given .0 .0), ending (e .evaluate .last .1 .1 .1 .1 .0) k (s .args .store .now))) high
+    ap (λ k. ended (early (z .end .given .0 .0), ending (e .evaluate .last .1 .1 .1 .1 .0) k (s .args .store .now)))
+    high
     ∙ sym (first-ended (under flag) comparing (less-does flag) (s .pre .1 .1 .is) (sides s) _ stops)
 
 returns-2 : tie.Need-returns-2
@@ -52,7 +53,8 @@ returns-2 c flag =
     (f .evaluate2 .ensures .0 1 (max μ (0 + a)) (omega (arith, some .0))) in
     let high : c .raise2 .last .0 ≡ max (max μ (0 + a)) (1 + b) =
     omega (arith, c .raise2 .ensures, g .larger .ensures) in
-    ap (λ k. ended (early (z .end2 .given .0 .0), ending (f .evaluate2 .last .1 .1 .1 .1 .0) k (s .args .store .now))) high
+    ap (λ k. ended (early (z .end2 .given .0 .0), ending (f .evaluate2 .last .1 .1 .1 .1 .0) k (s .args .store .now)))
+    high
     ∙ sym (second-ended (under flag) comparing (less-does flag) (s .pre .1 .1 .is) (sides s) _ left stops)
 
 returns-3 : tie.Need-returns-3

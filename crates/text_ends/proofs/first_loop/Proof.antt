@@ -34,7 +34,12 @@ first-loop-spec =
     let on : tie.In-loop Inv-loop μ-loop = search in
     let turn : tie.At-loop Inv-loop μ-loop = search in
     let s : tie.Start Inv-loop μ-loop = search in
-    omega (arith, found-here 0x04 (s .args .text .now) (turn .loop .at) (on .loop-test .taken) (c .if2 .taken), turn .loop .inv))
+    omega (
+      arith,
+      found-here 0x04 (s .args .text .now) (turn .loop .at) (on .loop-test .taken)
+          (c .if2 .taken),
+      turn .loop .inv,
+    ))
     (λ c. search needs)
     (λ c. search needs)
     -- loop-again
@@ -43,7 +48,12 @@ first-loop-spec =
     let on : tie.In-loop Inv-loop μ-loop = search in
     let turn : tie.At-loop Inv-loop μ-loop = search in
     let s : tie.Start Inv-loop μ-loop = search in
-    omega (arith, found-later 0x04 (s .args .text .now) (turn .loop .at) (on .loop-test .taken) (off .if2 .left), turn .loop .inv))
+    omega (
+      arith,
+      found-later 0x04 (s .args .text .now) (turn .loop .at) (on .loop-test .taken)
+          (off .if2 .left),
+      turn .loop .inv,
+    ))
     -- returns-3
     (λ c.
     let turn : tie.At-loop Inv-loop μ-loop = search in

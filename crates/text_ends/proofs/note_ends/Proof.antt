@@ -38,8 +38,10 @@ note-ends-spec =
     (λ c κs.
     let on : tie.In-loop Inv-loop μ-loop = search in
     let turn : tie.At-loop Inv-loop μ-loop = search in
-    let i = turn .loop .inv in
-    (omega (arith, i .inside, on .loop-test .taken), (i .right, i .first (λ z. absurd (omega (arith, on .loop-test .taken))))))
+    let i = turn .loop .inv in (
+      omega (arith, i .inside, on .loop-test .taken),
+      (i .right, i .first (λ z. absurd (omega (arith, on .loop-test .taken)))),
+    ))
     (λ c κs. search needs)
     -- loop-less
     (λ c. let on : tie.In-loop Inv-loop μ-loop = search in omega (arith, on .loop-test .taken))
