@@ -196,7 +196,7 @@ fn lengths() {
 fn speeds() {
     for page in pages().iter().filter(|page| *page != "docs/SPEED.md") {
         let text = text(page);
-        for unit in [" ns", " µs", " times plain", " times as fast"] {
+        for unit in [" ns", " µs", " %", " instructions", " times plain", " times as"] {
             let figure = text.match_indices(unit).find(|(at, _)| text[..*at].ends_with(|c: char| c.is_ascii_digit()));
             assert!(
                 figure.is_none(),
