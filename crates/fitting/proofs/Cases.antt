@@ -6,7 +6,7 @@ use Rattle.base.specs.Acts.{then′, give}
 use Rattle.base.specs.Answers.{and-then, settle, previewed}
 use Rattle.base.specs.Rows.{call, answered}
 use Rattle.word.specs.Numbers.{number-of, number-at, bits-of, bytes-of}
-use Rattle.word.specs.Sums.{limited, sum32}
+use Rattle.word.specs.Sums.{limited, stopping}
 use Rattle.word.specs.Targets.{within, target}
 use Rattle.text.specs.Reading.{expression-byte, condition-byte, command-byte, decline, there, due, pass, operand}
 use Rattle.text.specs.Reading.{number-due, number, expression-of, expression, condition-of, condition, command-of}
@@ -23,7 +23,7 @@ use Rattle.record.specs.Records.{rename}
 use Rattle.record.specs.Bytes.{first-byte, operand as record-operand, code-bytes, operation, name-of, option-map}
 use Rattle.record.specs.Bytes.{is-zero, record-of, in-front, records-from}
 use Rattle.machine.specs.Machine.{taken, pop, push, held, keep, in-range, next, land, jump, act, after, run-at, run}
-use Rattle.machine.specs.Calls.{machine-tests, tell, state-tests, go-on, run-machine, ran-of}
+use Rattle.machine.specs.Calls.{machine-tests, tell, state-tests, go-on-by, run-machine, ran-of}
 use Rattle.compile.specs.Compilation.{acomp, bcomp, ccomp}
 use Rattle.compile.specs.Table.{member, once, mentions, addr-of, entries, times, once-each, in-order}
 use Rattle.compile.specs.Calls.{compile-tests, compile}
@@ -42,7 +42,7 @@ memory-of-I = refl
 pub profiles : Profiles
 unfolding cases measured by-rules by-machine zeros
     A·text B·text C·text D·text E·text F·text G·text H·text I·text J·text K·text
-    then′ give and-then settle number-of number-at bits-of bytes-of limited sum32 within target
+    then′ give and-then settle number-of number-at bits-of bytes-of limited stopping within target
     expression-byte condition-byte command-byte decline there due pass operand number-due number
     expression-of expression condition-of condition command-of command all-read read-text
     expression-records condition-records records expression-depth condition-depth depth
@@ -51,7 +51,7 @@ unfolding cases measured by-rules by-machine zeros
     source-tests run-source
     rename first-byte record-operand code-bytes operation name-of option-map is-zero record-of in-front records-from
     taken pop push held keep in-range next land jump act after run-at run
-    machine-tests tell state-tests go-on run-machine ran-of
+    machine-tests tell state-tests go-on-by run-machine ran-of
     acomp bcomp ccomp member once mentions addr-of entries times once-each compile-tests compile
     put fill got read-back table-tests pod-tests load read-back-call call answered fit four-calls
 profiles = (refl, refl)
@@ -87,18 +87,18 @@ read-back-declines = record {
 }
 
 pub previews-of-B : PreviewsOfB
-unfolding and-then settle previewed then′ give number-of number-at limited sum32 within target
+unfolding and-then settle previewed then′ give number-of number-at limited stopping within target
     operation name-of option-map is-zero record-of in-front records-from
     taken pop push held keep in-range next land jump act after run-at run
-    machine-tests tell state-tests go-on run-machine ran-of
+    machine-tests tell state-tests go-on-by run-machine ran-of
     times once-each put fill got read-back table-tests pod-tests read-back-call preview-tests preview-machine
 previews-of-B = refl
 
 pub preview-declines : PreviewDeclines
-unfolding zeros and-then settle previewed then′ give number-of number-at limited sum32 within target
+unfolding zeros and-then settle previewed then′ give number-of number-at limited stopping within target
     operation name-of option-map is-zero record-of in-front records-from
     taken pop push held keep in-range next land jump act after run-at run
-    machine-tests tell state-tests go-on run-machine ran-of
+    machine-tests tell state-tests go-on-by run-machine ran-of
     times once-each got read-back table-tests pod-tests read-back-call preview-tests preview-machine
 preview-declines = record {
   nine = refl;
@@ -119,10 +119,10 @@ preview-declines = record {
 }
 
 pub paired-ends : PairedEnds
-unfolding and-then settle then′ give number-of number-at limited sum32 within target
+unfolding and-then settle then′ give number-of number-at limited stopping within target
     operation name-of option-map is-zero record-of in-front records-from member once mentions in-order
     taken pop push held keep in-range next land jump act after run-at run
-    machine-tests tell state-tests go-on run-machine ran-of
+    machine-tests tell state-tests go-on-by run-machine ran-of
     times once-each put fill got read-back table-tests pod-tests load read-back-call
     call answered paired-tests run-paired
 paired-ends = record {
@@ -135,19 +135,19 @@ paired-ends = record {
 }
 
 pub paired-of-B : PairedOfB
-unfolding and-then settle then′ give number-of number-at limited sum32 within target
+unfolding and-then settle then′ give number-of number-at limited stopping within target
     operation name-of option-map is-zero record-of in-front records-from member once mentions in-order
     taken pop push held keep in-range next land jump act after run-at run
-    machine-tests tell state-tests go-on run-machine ran-of
+    machine-tests tell state-tests go-on-by run-machine ran-of
     times once-each put fill got read-back table-tests pod-tests load read-back-call
     call answered paired-tests run-paired
 paired-of-B = record { under-3 = refl; under-4 = refl }
 
 pub paired-declines : PairedDeclines
-unfolding and-then settle then′ give number-of number-at limited sum32 within target
+unfolding and-then settle then′ give number-of number-at limited stopping within target
     operation name-of option-map is-zero record-of in-front records-from member once mentions in-order
     taken pop push held keep in-range next land jump act after run-at run
-    machine-tests tell state-tests go-on run-machine ran-of
+    machine-tests tell state-tests go-on-by run-machine ran-of
     times once-each put fill got read-back table-tests pod-tests load read-back-call
     call answered paired-tests run-paired
 paired-declines = record {

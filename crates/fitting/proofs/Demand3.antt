@@ -12,7 +12,7 @@ use Rattle.base.specs.Acts.{ok, ended}
 use Rattle.base.specs.Answers.{Answer, gives, and-then, settle}
 use Rattle.base.specs.Ends.{Fault, End, fault, Result, Ran, ran, report}
 use Rattle.base.proofs.Answers.{gives-one}
-use Rattle.word.specs.Sums.{SumRule, sum32}
+use Rattle.word.specs.Sums.{SumRule}
 use Rattle.text.specs.Syntax.{Command}
 use Rattle.text.specs.Reading.{read-text}
 use Rattle.text.specs.Encoding.{Bytes, Within}
@@ -20,7 +20,7 @@ use Rattle.text.specs.Sizes.{depth, cells}
 use Rattle.text.proofs.Accepted.{accepted}
 use Rattle.text.proofs.Limits.{short, shallow}
 use Rattle.source.specs.Rules.{Early, Store, Outcomes, start, exec, end-of, result-of, run-rules}
-use Rattle.source.specs.Calls.{run-source}
+use Rattle.source.specs.Calls.{sums, run-source}
 use Rattle.source.proofs.Calls.{source-runs}
 use Rattle.record.specs.Bytes.{assembly-kind, code-bytes}
 use Rattle.record.proofs.Written.{whole-written, written}
@@ -47,7 +47,7 @@ use Rattle.fitting.proofs.Rows.{same-length, in-a-row, whole-row}
 module _ (text : List ℕ) (bytes : Bytes text) (c : Command) (read : read-text text ≡ gives c) (lent : Compiled)
     (memory : List ℤ) (store : Store) (ready : Ready c lent memory store) (budget : ℕ) where
   abbrev rules : Result Store
-  rules = run-rules sum32 c budget store
+  rules = run-rules sums c budget store
 
   within : Within c
   within = accepted text bytes c .0 read .0
@@ -56,7 +56,7 @@ module _ (text : List ℕ) (bytes : Bytes text) (c : Command) (read : read-text 
   machine-same =
       in-a-row text c read within lent memory store ready budget
       ∙ ap (λ (r : Result Store). gives (report budget r, r .leaves))
-      (translated sum32 c (within .valid) store (ready .store-cells) budget)
+      (translated sums c (within .valid) store (ready .store-cells) budget)
 
   rules-same : run-source text store budget ≡ (gives (report budget rules), rules .leaves)
   rules-same = source-runs text c store budget read (ready .store-cells)
@@ -65,13 +65,13 @@ module _ (text : List ℕ) (bytes : Bytes text) (c : Command) (read : read-text 
   mark-low : rules .mark ≤ depth c
   mark-low =
       subst (λ (r : Result Store). r .mark ≤ depth c)
-      (translated sum32 c (within .valid) store (ready .store-cells) budget)
-      (fresh-inside sum32 (depth c) (machine-cells (depth c)) (to-m-prog (ccomp c)) budget
+      (translated sums c (within .valid) store (ready .store-cells) budget)
+      (fresh-inside sums (depth c) (machine-cells (depth c)) (to-m-prog (ccomp c)) budget
       (loaded (table (ccomp c)) (depth c) (cells c) store) .marked)
 
 pub fitted : Fitted
 fitted text bytes c read lent memory store ready budget =
-    let r = run-rules sum32 c budget store in (
+    let r = run-rules sums c budget store in (
       report budget r,
       r .leaves,
       machine-same text bytes c read lent memory store ready budget,
@@ -122,7 +122,7 @@ ends text lent memory store budget (ended (Early.spent, s)) m r z =
 
 pub demand3 : Demand3
 demand3 text bytes c read lent memory store ready budget =
-    let r = run-rules sum32 c budget store in
+    let r = run-rules sums c budget store in
     let m = machine-same text bytes c read lent memory store ready budget in
     let s = rules-same text bytes c read lent memory store ready budget in
     let D = depth c in
@@ -130,10 +130,10 @@ demand3 text bytes c read lent memory store ready budget =
       done-alike = alike text lent memory store budget (report budget r) (r .leaves) m s End.done;
       range-alike =
           alike text lent memory store budget (report budget r) (r .leaves) m s (fault Fault.out-of-range);
-      one-of-three = ends text lent memory store budget (exec sum32 c (start budget store)) m s
+      one-of-three = ends text lent memory store budget (exec sums c (start budget store)) m s
           (ticked c budget store .spent-all);
       stack = λ steps.
-          let x = fresh-inside sum32 D (machine-cells D) (to-m-prog (ccomp c)) steps
+          let x = fresh-inside sums D (machine-cells D) (to-m-prog (ccomp c)) steps
           (loaded (table (ccomp c)) D (cells c) store) in
           omega (arith, x .held, x .marked);
       mark-within = λ e k μ t d.
@@ -149,7 +149,7 @@ rows-fitted text bytes c read l ready budget =
     let lent : Compiled = record { code = l .code; table = l .table } in
     let w : Within c = accepted text bytes c .0 read .0 in
     let row = whole-row text c read w lent (l .memory) (l .store) ready budget in
-    let same = translated sum32 c (w .valid) (l .store) (ready .store-cells) budget in
+    let same = translated sums c (w .valid) (l .store) (ready .store-cells) budget in
     record {
       same-run =
           source-runs text c (l .store) budget read (ready .store-cells)
@@ -177,10 +177,10 @@ assembly-fitted text bytes c read m deep long budget = rules ∙ sym (ap told ca
     s : Result (Machine Assembly)
     s = assembly-run (ccomp c) m budget
 
-    same : seen (λ m. m .store) s ≡ run-rules sum32 c budget (m .store)
+    same : seen (λ m. m .store) s ≡ run-rules sums c budget (m .store)
     same =
-        ap (λ D. seen (λ m. m .store) (run sum32 D assembly (ccomp c) budget 0 (fresh m))) deep
-        ∙ assembled sum32 c budget m deep
+        ap (λ D. seen (λ m. m .store) (run sums D assembly (ccomp c) budget 0 (fresh m))) deep
+        ∙ assembled sums c budget m deep
 
     rules : run-source text (m .store) budget ≡ (gives (report budget s), s .leaves .memory .store)
     rules =
@@ -203,7 +203,7 @@ assembly-fitted text bytes c read m deep long budget = rules ∙ sym (ap told ca
 
 pub one-mark : OneMark
 one-mark text bytes c read lent memory m ready deep budget =
-    let r = run-rules sum32 c budget (m .store) in
+    let r = run-rules sums c budget (m .store) in
     let s = rules-same text bytes c read lent memory (m .store) ready budget in
     let same = sym (assembly-fitted text bytes c read m deep (ready .store-cells) budget) ∙ s in
     record {

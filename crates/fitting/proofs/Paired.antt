@@ -18,7 +18,6 @@ use Rattle.base.specs.Rows.{answered}
 use Rattle.base.proofs.Answers.{gives-one}
 use Rattle.base.proofs.Rows.{ends-there, goes-on}
 use Rattle.base.proofs.Settled.{not-both, unless-passed, needed, both}
-use Rattle.word.specs.Sums.{sum32}
 use Rattle.text.specs.Syntax.{Command}
 use Rattle.text.specs.Encoding.{Within}
 use Rattle.text.specs.Sizes.{records, depth, cells, sized, sizes}
@@ -26,7 +25,7 @@ use Rattle.text.specs.declared.Sizes.{Sizes}
 use Rattle.text.proofs.Accepted.{accepted}
 use Rattle.text.proofs.Limits.{short, shallow}
 use Rattle.source.specs.Rules.{Store}
-use Rattle.source.specs.Calls.{run-source}
+use Rattle.source.specs.Calls.{sums, run-source}
 use Rattle.source.proofs.Calls.{source-runs, source-declines}
 use Rattle.record.specs.Records.{MachineCode}
 use Rattle.record.specs.Bytes.{machine-kind, whole-records, record-count, records-of}
@@ -275,7 +274,7 @@ paired-fitted text code t D pair store budget =
         sym (pair-runs (machine-bytes c) t store D budget (compiled-pair c (within pair) store long))
         ∙ ap (λ n. let ran = machine-run P (loaded t D n store) D budget in
         (gives (report budget ran), read-back t D store (ran .leaves .memory))) (named-variables c valid .in-table)
-        ∙ ap (λ (r : Result Store). (gives (report budget r), r .leaves)) (translated sum32 c valid store long budget)
+        ∙ ap (λ (r : Result Store). (gives (report budget r), r .leaves)) (translated sums c valid store long budget)
         ∙ sym (source-runs text c store budget (by-command pair .reads) long)
     by (no short) =
         sym (pair-declines (machine-bytes c) (table (ccomp c)) store (depth c) budget

@@ -7,11 +7,10 @@ use lib.IntN.{ℤ}
 use Rattle.base.specs.Answers.{gives}
 use Rattle.base.specs.Ends.{Result, Ran, report}
 use Rattle.base.proofs.Settled.{needed, gave, preview-made, preview-gave}
-use Rattle.word.specs.Sums.{sum32}
 use Rattle.text.specs.Encoding.{Within}
 use Rattle.text.proofs.Accepted.{accepted}
 use Rattle.source.specs.Rules.{Store, run-rules}
-use Rattle.source.specs.Calls.{source-tests, run-source, preview-source}
+use Rattle.source.specs.Calls.{sums, source-tests, run-source, preview-source}
 use Rattle.source.proofs.Calls.{source-runs}
 use Rattle.machine.specs.Calls.{machine-tests, run-machine, without-state}
 use Rattle.machine.proofs.Calls.{fresh-run}
@@ -79,7 +78,7 @@ pub previews-fitted : PreviewsFitted
 previews-fitted text bytes c read l ready budget =
     let lent : Compiled = record { code = l .code; table = l .table } in
     let w : Within c = accepted text bytes c .0 read .0 in
-    let rules = run-rules sum32 c budget (l .store) in
+    let rules = run-rules sums c budget (l .store) in
     let run = source-runs text c (l .store) budget read (ready .store-cells) in
     let row = preview-row text c read w lent (l .memory) (l .store) ready budget in
     record {
@@ -89,7 +88,7 @@ previews-fitted text bytes c read l ready budget =
       by-machine =
           ap (λ x. x .0) row
           ∙ ap (λ (r : Result Store). gives (report budget r, r .leaves))
-          (translated sum32 c (w .valid) (l .store) (ready .store-cells) budget);
+          (translated sums c (w .valid) (l .store) (ready .store-cells) budget);
       by-run = run;
       store-stays = ap (λ x. x .1 .store) row;
       memory-stays = ap (λ x. x .1 .memory) row;

@@ -4,9 +4,10 @@
 use mathlib.Core.Path.{_≡_}
 use Prim.Native.Nat.{ℕ, _+_, _≤_, _<_}
 use Rattle.base.specs.Ends.{End, result}
-use Rattle.word.specs.Sums.{SumRule, sum32}
+use Rattle.word.specs.Sums.{SumRule}
 use Rattle.text.specs.Syntax.{Command}
 use Rattle.source.specs.Rules.{Store, run-rules}
+use Rattle.source.specs.Calls.{sums}
 
 -- What a run of c from s under the budget n, by a rule for sums, says of its ticks
 pub record Ticks (sum : SumRule) (c : Command) (n : ℕ) (s : Store) : Type 0 where
@@ -19,4 +20,4 @@ pub record Ticks (sum : SumRule) (c : Command) (n : ℕ) (s : Store) : Type 0 wh
 
 -- So it is by document 01's rule for sums, which all calls name.
 abbrev pub Ticked : Type 0
-Ticked = (c : Command) (n : ℕ) (s : Store) → Ticks sum32 c n s
+Ticked = (c : Command) (n : ℕ) (s : Store) → Ticks sums c n s

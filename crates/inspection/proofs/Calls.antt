@@ -18,7 +18,6 @@ use Rattle.base.specs.declared.Count.{Count}
 use Rattle.base.specs.declared.Count.the-variants.{Refused, Gives}
 use Rattle.base.proofs.Answers.{gives-one}
 use Rattle.base.proofs.Settled.{not-both, unless-passed, needed, both}
-use Rattle.word.specs.Sums.{sum32}
 use Rattle.text.specs.Syntax.{Command}
 use Rattle.text.specs.Encoding.{Within}
 use Rattle.text.specs.Sizes.{records, depth, cells}
@@ -29,7 +28,7 @@ use Rattle.record.specs.Bytes.{machine-kind, whole-records, records-of}
 use Rattle.record.specs.declared.Address.{Address}
 use Rattle.record.proofs.Written.{whole-written, written}
 use Rattle.machine.specs.Memories.{machine-cells}
-use Rattle.machine.specs.Calls.{machine-tests, machine-run, run-machine}
+use Rattle.machine.specs.Calls.{sums, machine-tests, machine-run, run-machine}
 use Rattle.machine.specs.Pieces.{total}
 use Rattle.machine.proofs.Calls.{number-given, counted, refused-by, CodeFound, code-found, machine-runs}
 use Rattle.machine.proofs.Pieces.{pieces}
@@ -190,7 +189,7 @@ module _ (code : List ℕ) (D n k : ℕ) (memory : List ℤ) (long : length memo
         heights = H .1;
         ran = report budget (machine-run P memory D budget);
         given = sym (ap (λ r. r .0) (machine-runs code memory D n budget (runs P (x .1))));
-        safely = sound sum32 (List ℤ) Address D (machine-cells D) P (H .0) (H .1) budget memory;
+        safely = sound sums (List ℤ) Address D (machine-cells D) P (H .0) (H .1) budget memory;
       }
 
 pub inspects : Inspects

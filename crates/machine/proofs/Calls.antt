@@ -22,7 +22,6 @@ use Rattle.base.specs.declared.Count.{Count}
 use Rattle.base.specs.declared.Count.the-variants.{Refused, Gives}
 use Rattle.base.proofs.Answers.{gives-one}
 use Rattle.base.proofs.Settled.{unless-passed, needed, refused-first, both, settled, declined}
-use Rattle.word.specs.Sums.{sum32}
 use Rattle.record.specs.Records.{AssemblyCode, MachineCode}
 use Rattle.record.specs.Bytes.{Kind, assembly-kind, machine-kind}
 use Rattle.record.specs.Bytes.{whole-records, record-count, records-from, records-of}
@@ -30,9 +29,10 @@ use Rattle.record.proofs.Tested.{few-records}
 use Rattle.record.proofs.Tested.{records-length}
 use Rattle.machine.specs.Machine.{Machine, at as machine-at}
 use Rattle.machine.specs.Memories.{Assembly, machine-cells}
-use Rattle.machine.specs.Calls.{assembly-tests, assembly-run, run-assembly}
+use Rattle.machine.specs.Calls.{sums, assembly-tests, assembly-run, run-assembly}
 use Rattle.machine.specs.Calls.{memory-fits, machine-tests, fresh-state, run-from, machine-run, Told, tell}
-use Rattle.machine.specs.Calls.{piece-told, Unfit, state-fits, FitsOrUnfit, state-tests, go-on, run-machine}
+use Rattle.machine.specs.Calls.{piece-told, Unfit, state-fits, FitsOrUnfit, state-tests, go-on-by, go-on}
+use Rattle.machine.specs.Calls.{run-machine}
 use Rattle.machine.specs.Calls.{ran-of, answer-without-state, without-state}
 use Rattle.machine.specs.Claims.{InBounds}
 use Rattle.machine.specs.Pieces.{FreshRun}
@@ -168,13 +168,13 @@ room-is count budget h = by (decLt 4294967295 (count + budget))
 
 -- A run from a state that passes
 abbrev pub Bounded : MachineCode → ℕ → State → List ℤ → Type 0
-Bounded P D s m = InBounds sum32 D (machine-cells D) P (s .mark) (machine-at (s .position) (s .size) m)
+Bounded P D s m = InBounds sums D (machine-cells D) P (s .mark) (machine-at (s .position) (s .size) m)
 
 -- keeps the memory's length.
 pub length-kept : (P : MachineCode) (m : List ℤ) (D : ℕ) (s : State) (budget : ℕ) → Bounded P D s m
-    → length (run-from P m D s budget .leaves .memory) ≡ length m
+    → length (run-from sums P m D s budget .leaves .memory) ≡ length m
 length-kept P m D s budget h =
-    kept sum32 D (machine-cells D) P (λ left. length left ≡ length m)
+    kept sums D (machine-cells D) P (λ left. length left ≡ length m)
     (record { saved = λ left a z h. length-set left _ z ∙ h; poked = λ left i z l h. length-set left _ z ∙ h })
     budget (s .mark) (machine-at (s .position) (s .size) m) h refl
 
@@ -275,13 +275,13 @@ module _ (code : List ℕ) (m : List ℤ) (D n : ℕ) (s : State) (budget : ℕ)
   -- The call
   pub state-declines : {number place : ℕ} → state-tests code m D n s budget ≡ refused number place
       → (refused number place, m) ≡ go-on code m D n s budget
-  unfolding go-on
+  unfolding go-on-by
   state-declines e = declined (state-tests code m D n s budget) _ _ m e
 
   pub state-runs : {P : MachineCode} → state-tests code m D n s budget ≡ gives P
-      → let r = run-from P m D s budget in
+      → let r = run-from sums P m D s budget in
       (gives (piece-told s budget r), r .leaves .memory) ≡ go-on code m D n s budget
-  unfolding go-on
+  unfolding go-on-by
   state-runs e = settled (state-tests code m D n s budget) _ _ m e refl
 
 -- ---- From a fresh machine

@@ -4,19 +4,19 @@ use mathlib.Core.Path.{refl}
 use Rattle.base.specs.Acts.{then′}
 use Rattle.base.specs.Answers.{and-then, settle}
 use Rattle.word.specs.Numbers.{number-of, number-at}
-use Rattle.word.specs.Sums.{limited, sum32}
+use Rattle.word.specs.Sums.{limited, stopping}
 use Rattle.word.specs.Targets.{within, target}
 use Rattle.record.specs.Bytes.{operation, name-of, option-map, is-zero, record-of, in-front, records-from}
 use Rattle.machine.specs.Machine.{taken, pop, push, held, keep, in-range, next, land, jump, act, after, run-at}
 use Rattle.machine.specs.Machine.{run}
-use Rattle.machine.specs.Calls.{assembly-tests, run-assembly, machine-tests, tell, state-tests, go-on}
+use Rattle.machine.specs.Calls.{assembly-tests, run-assembly, machine-tests, tell, state-tests, go-on-by}
 use Rattle.machine.specs.Calls.{run-machine}
 use Rattle.machine.specs.Calls.{ran-of}
 use Rattle.machine.specs.Pieces.{after-piece, in-pieces}
 use Rattle.machine.specs.Cases.{rows, EndsCome, AssemblyDeclines, MachineDeclines, Pauses, StateDeclines}
 
 pub ends-come : EndsCome
-unfolding rows then′ limited sum32 within target
+unfolding rows then′ limited stopping within target
     taken pop push held keep in-range next land jump act after run-at run
 ends-come = (refl, refl)
 
@@ -39,8 +39,8 @@ assembly-declines = record {
 
 pub machine-declines : MachineDeclines
 unfolding and-then settle number-of number-at
-    operation name-of option-map is-zero record-of in-front records-from run-at run machine-tests state-tests tell go-on
-    run-machine ran-of
+    operation name-of option-map is-zero record-of in-front records-from run-at run
+    machine-tests state-tests tell go-on-by run-machine ran-of
 machine-declines = record {
   nine = refl;
   ten = refl;
@@ -59,10 +59,10 @@ machine-declines = record {
 }
 
 pub pauses : Pauses
-unfolding then′ and-then settle number-of number-at limited sum32 within target
+unfolding then′ and-then settle number-of number-at limited stopping within target
     operation name-of option-map is-zero record-of in-front records-from
     taken pop push held keep in-range next land jump act after run-at run
-    machine-tests tell state-tests go-on run-machine after-piece in-pieces
+    machine-tests tell state-tests go-on-by run-machine after-piece in-pieces
 pauses = record {
   first = refl;
   second = refl;
@@ -80,7 +80,8 @@ pauses = record {
 
 pub state-declines : StateDeclines
 unfolding and-then settle number-of number-at
-    operation name-of option-map is-zero record-of in-front records-from run-at run machine-tests tell state-tests go-on
+    operation name-of option-map is-zero record-of in-front records-from run-at run
+    machine-tests tell state-tests go-on-by
 state-declines = record {
   fifteen-position = refl;
   fifteen-size = refl;

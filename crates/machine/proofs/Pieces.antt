@@ -14,15 +14,14 @@ use borrow.Author.Tests.{leb-true}
 use Rattle.base.specs.Answers.{Answer, gives, refused, unless_refuse_at_else_, and-then}
 use Rattle.base.specs.Ends.{End, fault, Result, Ran, ran}
 use Rattle.base.proofs.Settled.{not-both, Gave, gave}
-use Rattle.word.specs.Sums.{sum32}
 use Rattle.word.proofs.Claims.{steady-sums}
 use Rattle.record.specs.Records.{MachineCode}
 use Rattle.record.specs.Bytes.{machine-kind, whole-records, records-of}
 use Rattle.machine.specs.Machine.{Machine, at as machine-at, run}
 use Rattle.machine.specs.Memories.{machine-cells}
 use Rattle.machine.specs.Claims.{resume, InBounds}
-use Rattle.machine.specs.Calls.{machine-tests, run-from, Told, finished, paused, tell, piece-told, Unfit}
-use Rattle.machine.specs.Calls.{fresh-state, state-fits, state-tests, go-on, run-machine, ran-of}
+use Rattle.machine.specs.Calls.{sums, machine-tests, run-from, Told, finished, paused, tell, piece-told, Unfit}
+use Rattle.machine.specs.Calls.{fresh-state, state-fits, state-tests, go-on-by, go-on, run-machine, ran-of}
 use Rattle.machine.specs.Pieces.{after-piece, in-pieces, total, Pieces, PiecesFrom, GoesOn, HandsOut}
 use Rattle.machine.specs.Pieces.{FifteenAlone}
 use Rattle.machine.specs.declared.State.{State}
@@ -49,22 +48,22 @@ same-tests code D n m m′ h = λ i.
 -- what was found by one that gives p, and the run that it is of
 module _ (code : List ℕ) (m : List ℤ) (D n : ℕ) (s : State) (budget : ℕ) (p : Told) (m′ : List ℤ)
     (e : go-on code m D n s budget ≡ (gives p, m′)) where
-  gone : Gave (state-tests code m D n s budget) (λ P. piece-told s budget (run-from P m D s budget))
-      (λ P. run-from P m D s budget .leaves .memory) p m′
-  unfolding go-on
+  gone : Gave (state-tests code m D n s budget) (λ P. piece-told s budget (run-from sums P m D s budget))
+      (λ P. run-from sums P m D s budget .leaves .memory) p m′
+  unfolding go-on-by
   gone = gave (state-tests code m D n s budget) _ _ m (sym e)
 
   abbrev P : MachineCode
   P = gone .value
 
   abbrev r : Result (Machine (List ℤ))
-  r = run-from P m D s budget
+  r = run-from sums P m D s budget
 
   found : StateFound code m D n s budget P
   found = state-passed code m D n s budget (gone .passed)
 
-  stays : InBounds sum32 D (machine-cells D) P (r .mark) (r .leaves)
-  stays = inside sum32 D (machine-cells D) P budget (s .mark) (machine-at (s .position) (s .size) m)
+  stays : InBounds sums D (machine-cells D) P (r .mark) (r .leaves)
+  stays = inside sums D (machine-cells D) P budget (s .mark) (machine-at (s .position) (s .size) m)
       (bounded code m D n s budget found)
 
   as-long : length m′ ≡ length m
@@ -85,7 +84,7 @@ goes-on code m D n s budget p m′ e = record {
     is = ap ran-of (gone code m D n s budget p m′ e .tells) ∙ told-ran _ _ _ _
 
     high : s .mark ≤ res .mark
-    high = highest sum32 D (machine-cells D) (P code m D n s budget p m′ e) budget (s .mark)
+    high = highest sums D (machine-cells D) (P code m D n s budget p m′ e) budget (s .mark)
         (machine-at (s .position) (s .size) m) (found code m D n s budget p m′ e .held) .kept
 
 -- ---- A pause
@@ -125,7 +124,7 @@ hands-out code m D n s budget s′ m′ e = record {
     res : Result (Machine (List ℤ))
     res = r code m D n s budget (paused s′) m′ e
 
-    in-bounds : InBounds sum32 D (machine-cells D) (P code m D n s budget (paused s′) m′ e) (res .mark) (res .leaves)
+    in-bounds : InBounds sums D (machine-cells D) (P code m D n s budget (paused s′) m′ e) (res .mark) (res .leaves)
     in-bounds = stays code m D n s budget (paused s′) m′ e
 
     pause : Paused s′ (res .end) (s .count + (budget - res .left)) (res .mark) (res .leaves)
@@ -142,7 +141,7 @@ hands-out code m D n s budget s′ m′ e = record {
     count : s′ .count ≡ s .count + budget
     count =
         let none-left : res .left ≡ 0 =
-        spent-all sum32 D (machine-cells D) (P code m D n s budget (paused s′) m′ e) budget (s .mark)
+        spent-all sums D (machine-cells D) (P code m D n s budget (paused s′) m′ e) budget (s .mark)
         (machine-at (s .position) (s .size) m) (pause .spent) in
         omega (arith, ap (λ (t : State). t .count) is)
 
@@ -158,9 +157,9 @@ module _ (a b : ℕ) (code : List ℕ) (m : List ℤ) (D n : ℕ) (s : State) (k
 
     -- by the end of the first
     by-end : (x : End) (left h : ℕ) (t : Machine (List ℤ)) → (x ≡ End.spent → left ≡ 0)
-        → InBounds sum32 D (machine-cells D) P h t → length (t .memory) ≡ length m
+        → InBounds sums D (machine-cells D) P h t → length (t .memory) ≡ length m
         → after-piece (gives (tell x (s .count + (a - left)) h t), t .memory) (λ s′ m′. go-on code m′ D n s′ b)
-        ≡ told-of (resume sum32 D (machine-cells D) P b x left h t)
+        ≡ told-of (resume sums D (machine-cells D) P b x left h t)
     unfolding tell after-piece resume
     by-end End.done left h t z i l =
         let same : s .count + (a - left) ≡ s .count + (a + b - (left + b)) = omega arith in
@@ -171,8 +170,8 @@ module _ (a b : ℕ) (code : List ℕ) (m : List ℤ) (D n : ℕ) (s : State) (k
     by-end End.spent left h t z i l =
         let none-left : left ≡ 0 = z refl in
         let s′ : State = record { position = t .position; size = t .size; count = s .count + (a - left); mark = h } in
-        let r = run sum32 D (machine-cells D) P b h t in
-        let most : r .left ≤ b = left-most sum32 D (machine-cells D) P b h t in
+        let r = run sums D (machine-cells D) P b h t in
+        let most : r .left ≤ b = left-most sums D (machine-cells D) P b h t in
         let on : s .count + (a - left) + (b - r .left) ≡ s .count + (a + b - r .left) = omega arith in
         sym (state-runs code (t .memory) D n s′ b (state-passes code (t .memory) D n s′ b (record {
           records = same-tests code D n (t .memory) m l ∙ f .records;
@@ -186,13 +185,13 @@ module _ (a b : ℕ) (code : List ℕ) (m : List ℤ) (D n : ℕ) (s : State) (k
     in-two : two-calls ≡ go-on code m D n s (a + b)
     in-two =
         let here = machine-at (s .position) (s .size) m in
-        let r = run-from P m D s a in
+        let r = run-from sums P m D s a in
         let in-bounds = bounded code m D n s a f in
         ap (λ x. after-piece x (λ s′ m′. go-on code m′ D n s′ b))
         (sym (state-runs code m D n s a (state-passes code m D n s a f)))
-        ∙ by-end (r .end) (r .left) (r .mark) (r .leaves) (spent-all sum32 D (machine-cells D) P a (s .mark) here)
-        (inside sum32 D (machine-cells D) P a (s .mark) here in-bounds) (length-kept P m D s a in-bounds)
-        ∙ ap told-of (sym (cut sum32 D (machine-cells D) P steady-sums a b (s .mark) here))
+        ∙ by-end (r .end) (r .left) (r .mark) (r .leaves) (spent-all sums D (machine-cells D) P a (s .mark) here)
+        (inside sums D (machine-cells D) P a (s .mark) here in-bounds) (length-kept P m D s a in-bounds)
+        ∙ ap told-of (sym (cut sums D (machine-cells D) P steady-sums a b (s .mark) here))
         ∙ state-runs code m D n s (a + b) (state-passes code m D n s (a + b) (record {
           records = f .records;
           placed = f .placed;
@@ -270,7 +269,7 @@ module _ (code : List ℕ) (m : List ℤ) (D n : ℕ) (s : State) (budget : ℕ)
   unfolding state-tests and-then
   fit-passes f = simp (e, f)
 
-  fit-runs : state-fits s (length P) D budget ≡ true → let r = run-from P m D s budget in
+  fit-runs : state-fits s (length P) D budget ≡ true → let r = run-from sums P m D s budget in
       go-on code m D n s budget ≡ (gives (piece-told s budget r), r .leaves .memory)
   fit-runs f = sym (state-runs code m D n s budget (fit-passes f))
 
@@ -280,7 +279,7 @@ module _ (code : List ℕ) (m : List ℤ) (D n : ℕ) (s : State) (budget : ℕ)
     | inr f ↦ not-both (ap (λ x. x .0) (sym h ∙ fit-runs f))
   ]
 
-  else-run : (Unfit s (length P) D budget → ⊥) → let r = run-from P m D s budget in
+  else-run : (Unfit s (length P) D budget → ⊥) → let r = run-from sums P m D s budget in
       go-on code m D n s budget ≡ (gives (piece-told s budget r), r .leaves .memory)
   else-run none = fit-runs (fits-or-unfit s (length P) D budget small .1 none)
 

@@ -11,12 +11,16 @@ use lib.IntN.{ℤ}
 use lib.ListN.{length}
 use Rattle.base.specs.Answers.{Answer, gives, unless_refuse_at_else_, and-then, settle}
 use Rattle.base.specs.Ends.{End, fault, Result, Ran, ran, report}
-use Rattle.word.specs.Sums.{sum32}
+use Rattle.word.specs.Sums.{SumRule, stopping}
 use Rattle.record.specs.Records.{AssemblyCode, MachineCode}
 use Rattle.record.specs.Bytes.{assembly-kind, machine-kind, whole-records, records-of}
 use Rattle.machine.specs.Machine.{Machine, at as machine-at, fresh, run}
 use Rattle.machine.specs.Memories.{Assembly, assembly, machine-cells}
 use Rattle.machine.specs.declared.State.{State}
+
+-- The rule for sums of all calls that run records
+abbrev pub sums : SumRule
+sums = stopping
 
 -- ---- run_assembly
 
@@ -31,7 +35,7 @@ assembly-tests code m =
 
 -- D is the stack's length
 abbrev pub assembly-run : AssemblyCode → Assembly → ℕ → Result (Machine Assembly)
-assembly-run P m budget = run sum32 (length (m .stack)) assembly P budget 0 (fresh m)
+assembly-run P m budget = run sums (length (m .stack)) assembly P budget 0 (fresh m)
 
 -- The end, the count and the mark; the stack and the store as they are left
 unfoldable pub run-assembly : List ℕ → Assembly → ℕ → Answer Ran × Assembly
@@ -60,14 +64,14 @@ machine-tests code memory D n =
 abbrev pub fresh-state : State
 fresh-state = record { position = 0; size = 0; count = 0; mark = 0 }
 
--- The run from a state. "Each budget counts from the pause"
-abbrev pub run-from : MachineCode → List ℤ → ℕ → State → ℕ → Result (Machine (List ℤ))
-run-from P memory D s budget =
-    run sum32 D (machine-cells D) P budget (s .mark) (machine-at (s .position) (s .size) memory)
+-- The run from a state, by a rule for sums. "Each budget counts from the pause"
+abbrev pub run-from : SumRule → MachineCode → List ℤ → ℕ → State → ℕ → Result (Machine (List ℤ))
+run-from sum P memory D s budget =
+    run sum D (machine-cells D) P budget (s .mark) (machine-at (s .position) (s .size) memory)
 
--- from a fresh machine
+-- from a fresh machine, by the calls' rule
 abbrev pub machine-run : MachineCode → List ℤ → ℕ → ℕ → Result (Machine (List ℤ))
-machine-run P memory D budget = run-from P memory D fresh-state budget
+machine-run P memory D budget = run-from sums P memory D fresh-state budget
 
 -- What a call tells of a run: the end, the count and the mark, or the state of a spent one
 pub data Told : Type 0 where
@@ -113,11 +117,17 @@ state-tests code memory D n s budget =
     unless state-fits s (length P) D budget refuse 15 at 0 else
     gives P)
 
--- "A later call takes them with the same code, memory, D and n": what the run tells, and the memory as it is left
-unfoldable pub go-on : List ℕ → List ℤ → ℕ → ℕ → State → ℕ → Answer Told × List ℤ
-go-on code memory D n s budget =
+-- "A later call takes them with the same code, memory, D and n": what the run tells, and the memory as it is left. By
+-- a rule for sums (document 02, W9, speaks of runs by several)
+unfoldable pub go-on-by : SumRule → List ℕ → List ℤ → ℕ → ℕ → State → ℕ → Answer Told × List ℤ
+go-on-by sum code memory D n s budget =
     settle (state-tests code memory D n s budget)
-    (λ P. piece-told s budget (run-from P memory D s budget)) (λ P. run-from P memory D s budget .leaves .memory) memory
+    (λ P. piece-told s budget (run-from sum P memory D s budget))
+    (λ P. run-from sum P memory D s budget .leaves .memory) memory
+
+-- The call
+abbrev pub go-on : List ℕ → List ℤ → ℕ → ℕ → State → ℕ → Answer Told × List ℤ
+go-on code memory D n s budget = go-on-by sums code memory D n s budget
 
 -- ---- run_machine
 

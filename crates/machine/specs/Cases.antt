@@ -8,14 +8,13 @@ use lib.IntN.{ℤ, pos, negsuc}
 use lib.ListN.{replicate}
 use Rattle.base.specs.Answers.{Answer, gives, refused}
 use Rattle.base.specs.Ends.{Fault, short, full, out-of-range, astray, End, done, spent, fault, Result, Ran, ran}
-use Rattle.word.specs.Sums.{sum32}
 use Rattle.record.specs.Records.{Record, LOADI, ADD, JMP, JMPLESS, JMPGE}
 use Rattle.record.specs.Cases.{five}
 use Rattle.record.specs.declared.Variable.{Variable}
 use Rattle.record.specs.declared.Address.{Address}
 use Rattle.machine.specs.Machine.{Machine, fresh, run}
 use Rattle.machine.specs.Memories.{Assembly, assembly, machine-cells}
-use Rattle.machine.specs.Calls.{run-assembly, fresh-state, Told, finished, paused, go-on, run-machine}
+use Rattle.machine.specs.Calls.{sums, run-assembly, fresh-state, Told, finished, paused, go-on, run-machine}
 use Rattle.machine.specs.Calls.{without-state}
 use Rattle.machine.specs.Pieces.{in-pieces}
 use Rattle.machine.specs.declared.State.{State}
@@ -58,11 +57,11 @@ abbrev pub ended-by : {M Name : Type 0} → Row Name → Result M → Row Name
 ended-by k r = row (k .code) (k .depth) (k .budget) (r .end) (k .budget - r .left) (r .mark)
 
 abbrev pub by-assembly : Row Variable → Row Variable
-by-assembly k = ended-by k (run sum32 (k .depth) assembly (k .code) (k .budget) 0
+by-assembly k = ended-by k (run sums (k .depth) assembly (k .code) (k .budget) 0
     (fresh (record { stack = replicate (k .depth) (pos 0); store = replicate 64 (pos 0) })))
 
 abbrev pub by-machine : Row Address → Row Address
-by-machine k = ended-by k (run sum32 (k .depth) (machine-cells (k .depth)) (k .code) (k .budget) 0
+by-machine k = ended-by k (run sums (k .depth) (machine-cells (k .depth)) (k .code) (k .budget) 0
     (fresh (replicate (k .depth + 1) (pos 0))))
 
 -- Every row holds on both memories.

@@ -9,7 +9,7 @@ use lib.ListN.{length}
 use Rattle.base.specs.Answers.{Answer, gives, refused, settle}
 use Rattle.base.specs.Ends.{Ran, report}
 use Rattle.record.specs.Records.{MachineCode}
-use Rattle.machine.specs.Calls.{machine-tests, fresh-state, run-from, machine-run, Told, finished, paused}
+use Rattle.machine.specs.Calls.{sums, machine-tests, fresh-state, run-from, machine-run, Told, finished, paused}
 use Rattle.machine.specs.Calls.{piece-told, Unfit, state-tests, go-on, run-machine, ran-of, without-state}
 use Rattle.machine.specs.declared.State.{State}
 
@@ -78,7 +78,7 @@ pub record StateRefusals (code : List ℕ) (memory : List ℤ) (D n : ℕ) (s : 
   pub fifteen : (P : MachineCode) → machine-tests code memory D n ≡ gives P
       → (go-on code memory D n s budget ≡ (refused 15 0, memory)) ↔ Unfit s (length P) D budget
   pub else-runs : (P : MachineCode) → machine-tests code memory D n ≡ gives P → (Unfit s (length P) D budget → ⊥)
-      → let r = run-from P memory D s budget in
+      → let r = run-from sums P memory D s budget in
       go-on code memory D n s budget ≡ (gives (piece-told s budget r), r .leaves .memory)
 
 -- ("A budget is an unsigned 32-bit number", document 01)

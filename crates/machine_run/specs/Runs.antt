@@ -6,13 +6,12 @@ use lib.IntN.{ℤ}
 use lib.ListN.{length}
 use Rattle.base.specs.Answers.{gives, and-then}
 use Rattle.base.specs.Ends.{Result}
-use Rattle.word.specs.Sums.{sum32}
 use Rattle.record.specs.Records.{MachineCode}
 use Rattle.record.specs.Bytes.{machine-kind, records-from}
 use Rattle.machine.specs.Machine as Rules
 use Rattle.machine.specs.Machine.{run}
 use Rattle.machine.specs.Memories.{machine-cells}
-use Rattle.machine.specs.Calls.{machine-tests, state-tests}
+use Rattle.machine.specs.Calls.{sums, machine-tests, state-tests}
 use Rattle.machine.specs.declared.State.{State}
 use Rattle.machine_step.specs.Code.{machine-of}
 use Rattle.machine_step.specs.declared.Machine.{Machine}
@@ -30,7 +29,7 @@ TestedState code m D n s budget limit last =
 abbrev pub Runs : Machine → ℕ → ℕ → List ℕ → List ℤ → ℕ → Result (Rules.Machine (List ℤ)) → Type 0
 Runs s D last code m limit result = (n : ℕ) (P : MachineCode) → length m ≡ D + 1 + n
     → records-from (machine-kind n) code 0 last ≡ gives P
-    → result ≡ run sum32 D (machine-cells D) P (limit - s .count) (s .mark) (machine-of s m)
+    → result ≡ run sums D (machine-cells D) P (limit - s .count) (s .mark) (machine-of s m)
 
 -- It needs a machine that may stand at its code's end, with its values within its mark, that within D, and its count
 -- within the limit

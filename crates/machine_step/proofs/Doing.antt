@@ -8,7 +8,7 @@ use lib.IntN.{ℤ, _+ℤ_}
 use lib.Signed.{ltZ}
 use Rattle.base.specs.Acts.{ok, then′}
 use Rattle.base.specs.declared.End.the-variants.{OutOfRange, Short, Full}
-use Rattle.word.specs.Sums.{limited, sum32}
+use Rattle.word.specs.Sums.{limited, stopping}
 use Rattle.word.specs.Targets.{target}
 use Rattle.word.specs.declared.Sum.{Sum}
 use Rattle.word.specs.declared.Sum.the-variants.{Fits, Out}
@@ -21,6 +21,7 @@ use Rattle.machine_step.specs.declared.Step.{Step}
 use Rattle.machine_step.proofs.Running.{moves-to, moves-below, landed-is}
 use Rattle.machine.proofs.Steps.{push-on, push-full, add-short, add-fits, add-out, store-short, store-on}
 use Rattle.machine.proofs.Steps.{compare-stopped, compare-taken, compare-passed}
+use Rattle.machine.specs.Calls.{sums}
 
 -- What the test of two Bools says.
 pub same-flag : (b flag : Bool) → Bool·beq b flag ≡ true → b ≡ flag
@@ -90,9 +91,9 @@ module _ {M Name : Type 0} (here : Place M Name) where
 
   -- The sum of the values read is the rule's sum,
   pub summed : {x y : ℤ} {z z′ : Sum} → z ≡ limited (x +ℤ y) → x ≡ second → y ≡ top → z ≡ z′
-      → sum32 0 second top ≡ z′
-  unfolding sum32
-  summed e f g h = sym (e ∙ ap₂ (sum32 0) f g) ∙ h
+      → sums 0 second top ≡ z′
+  unfolding stopping
+  summed e f g h = sym (e ∙ ap₂ (sums 0) f g) ∙ h
 
   -- and their comparison is the two values'.
   pub compared : {x y : ℤ} {b b′ : Bool} → b ≡ ltZ x y → x ≡ second → y ≡ top → b ≡ b′ → ltZ second top ≡ b′
@@ -102,7 +103,7 @@ module _ {M Name : Type 0} (here : Place M Name) where
 
   pub loadi-full : {r : Step} (z : ℤ) → r ≡ stopped s Full → D ≤ k → step-of r m ≡ did (LOADI z)
   unfolding counted act
-  loadi-full z e h = ap (λ r. step-of r m) e ∙ sym (ap (counted s m) (push-full (sum32 0) D o last z p k m h))
+  loadi-full z e h = ap (λ r. step-of r m) e ∙ sym (ap (counted s m) (push-full (sums 0) D o last z p k m h))
 
   pub loadi-pushed : {r : Step} {m′ : M} {z z′ : ℤ} {mark : ℕ} → r ≡ moved s (p + 1) (k + 1) mark
       → mark ≡ max μ (k + 1) → m′ ≡ o .poke m k z′ → z′ ≡ z → k < D → step-of r m′ ≡ did (LOADI z)
@@ -110,7 +111,7 @@ module _ {M Name : Type 0} (here : Place M Name) where
   loadi-pushed {z = z} {mark = mark} e raised f g h =
       ap₂ step-of e (f ∙ ap (o .poke m k) g)
       ∙ moves-to s m (o .poke m k z) (p + 1) (k + 1) mark raised
-      ∙ sym (ap (counted s m) (push-on (sum32 0) D o last z p k m h))
+      ∙ sym (ap (counted s m) (push-on (sums 0) D o last z p k m h))
 
   -- LOAD does what LOADI does with what the name holds.
   pub load-pushed : {stepped : Stepped M} {z : ℤ} (x : Name) → z ≡ o .load m x → stepped ≡ did (LOADI z)
@@ -122,32 +123,32 @@ module _ {M Name : Type 0} (here : Place M Name) where
 
   pub add-stops : {r : Step} → r ≡ stopped s Short → k < 2 → step-of r m ≡ did ADD
   unfolding counted
-  add-stops e h = ap (λ r. step-of r m) e ∙ sym (ap (counted s m) (add-short (sum32 0) D o last p k m h))
+  add-stops e h = ap (λ r. step-of r m) e ∙ sym (ap (counted s m) (add-short (sums 0) D o last p k m h))
 
   pub add-pushed : {r : Step} {m′ : M} {z z′ : ℤ} → r ≡ moved s (p + 1) (k - 1) μ → m′ ≡ o .poke m (k - 2) z′
-      → z′ ≡ z → 2 ≤ k → μ ≤ D → sum32 0 second top ≡ Fits z → step-of r m′ ≡ did ADD
+      → z′ ≡ z → 2 ≤ k → μ ≤ D → sums 0 second top ≡ Fits z → step-of r m′ ≡ did ADD
   add-pushed {z = z} e f g h d q =
       steps-on (k - 1) e (f ∙ ap (o .poke m (k - 2)) g) (omega arith)
-      ∙ sym (ap (counted s m) (add-fits (sum32 0) D o last z p k m h (omega (arith, here .held)) q))
+      ∙ sym (ap (counted s m) (add-fits (sums 0) D o last z p k m h (omega (arith, here .held)) q))
 
-  pub add-leaves-range : {r : Step} → r ≡ stopped s OutOfRange → 2 ≤ k → μ ≤ D → sum32 0 second top ≡ Out
+  pub add-leaves-range : {r : Step} → r ≡ stopped s OutOfRange → 2 ≤ k → μ ≤ D → sums 0 second top ≡ Out
       → step-of r m ≡ did ADD
   unfolding counted
   add-leaves-range e h d q =
       ap (λ r. step-of r m) e
-      ∙ sym (ap (counted s m) (add-out (sum32 0) D o last p k m h (omega (arith, here .held)) q))
+      ∙ sym (ap (counted s m) (add-out (sums 0) D o last p k m h (omega (arith, here .held)) q))
 
   -- ---- STORE
 
   pub store-stops : {r : Step} (x : Name) → r ≡ stopped s Short → k < 1 → step-of r m ≡ did (STORE x)
   unfolding counted
-  store-stops x e h = ap (λ r. step-of r m) e ∙ sym (ap (counted s m) (store-short (sum32 0) D o last x p k m h))
+  store-stops x e h = ap (λ r. step-of r m) e ∙ sym (ap (counted s m) (store-short (sums 0) D o last x p k m h))
 
   pub store-saved : {r : Step} {m′ : M} {z : ℤ} (x : Name) → r ≡ moved s (p + 1) (k - 1) μ → m′ ≡ o .save m x z
       → z ≡ top → 1 ≤ k → step-of r m′ ≡ did (STORE x)
   store-saved x e f g h =
       steps-on (k - 1) e (f ∙ ap (o .save m x) g) (omega arith)
-      ∙ sym (ap (counted s m) (store-on (sum32 0) D o last x p k m h))
+      ∙ sym (ap (counted s m) (store-on (sums 0) D o last x p k m h))
 
   -- ---- Jumps
 
@@ -165,16 +166,16 @@ module _ {M Name : Type 0} (here : Place M Name) where
       → step-of r m ≡ did (comparing flag i)
   unfolding counted
   compare-stops flag i e h =
-      ap (λ r. step-of r m) e ∙ sym (ap (counted s m) (compare-stopped (sum32 0) D o last flag i p k m h))
+      ap (λ r. step-of r m) e ∙ sym (ap (counted s m) (compare-stopped (sums 0) D o last flag i p k m h))
 
   pub compare-landed : {r : Step} {i i′ : ℤ} (flag : Bool) → r ≡ landed s (k - 2) (target p i′ last) → i′ ≡ i → 2 ≤ k
       → ltZ second top ≡ flag → step-of r m ≡ did (comparing flag i)
   compare-landed {i = i} flag e f h q =
       jumped (k - 2) e f ∙ landed-is D o last s m (k - 2) i (omega (arith, here .held))
-      ∙ sym (ap (counted s m) (compare-taken (sum32 0) D o last flag i p k m h q))
+      ∙ sym (ap (counted s m) (compare-taken (sums 0) D o last flag i p k m h q))
 
   pub compare-passes : {r : Step} (flag : Bool) (i : ℤ) → r ≡ moved s (p + 1) (k - 2) μ → 2 ≤ k
       → ltZ second top ≡ not flag → step-of r m ≡ did (comparing flag i)
   compare-passes flag i e h q =
       steps-on (k - 2) e refl (omega arith)
-      ∙ sym (ap (counted s m) (compare-passed (sum32 0) D o last flag i p k m h q))
+      ∙ sym (ap (counted s m) (compare-passed (sums 0) D o last flag i p k m h q))

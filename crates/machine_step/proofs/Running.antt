@@ -16,7 +16,7 @@ use Rattle.base.specs.Ends.{Fault, fault, Result, result, Ran, ran, report}
 use Rattle.base.specs.Code.{end-of, run-answer}
 use Rattle.base.specs.declared.End.{End}
 use Rattle.base.specs.declared.Run as Code
-use Rattle.word.specs.Sums.{sum32}
+use Rattle.word.specs.Sums.{stopping}
 use Rattle.word.specs.Targets.{target}
 use Rattle.word.specs.declared.Target.{Target}
 use Rattle.word.specs.declared.Target.the-variants.{To, Astray}
@@ -27,7 +27,7 @@ use Rattle.record.proofs.Tested.{records-length}
 use Rattle.machine.specs.Machine as Rules
 use Rattle.machine.specs.Machine.{Memory, at, fresh, land, jump, act, after, run}
 use Rattle.machine.specs.Memories.{machine-cells}
-use Rattle.machine.specs.Calls.{run-from, Told, tell, piece-told}
+use Rattle.machine.specs.Calls.{sums, run-from, Told, tell, piece-told}
 use Rattle.machine.specs.Code.{piece-answer}
 use Rattle.machine.specs.declared.State.{State}
 use Rattle.machine.specs.declared.Piece as Machined
@@ -56,12 +56,12 @@ moves-below s m m′ p size h = moves-to s m m′ p size (s .mark) (omega arith)
 pub landed-is : {M Name : Type 0} (D : ℕ) (o : Memory M Name) (last : ℕ) (s : Machine) (m : M) (size : ℕ) (i : ℤ)
     → size ≤ s .mark
     → step-of (landed s size (target (s .position) i last)) m
-    ≡ counted s m (jump (sum32 0) D o last i (at (s .position) size m))
+    ≡ counted s m (jump (sums 0) D o last i (at (s .position) size m))
 unfolding jump
 landed-is D o last s m size i h = by (target (s .position) i last)
   where
     by : (t : Target) → step-of (landed s size t) m
-        ≡ counted s m (land (sum32 0) D o last t (at (s .position) size m))
+        ≡ counted s m (land (sums 0) D o last t (at (s .position) size m))
     by (To p) = unfold land in moves-below s m m p size h
     by Astray = unfold land counted in refl
 
@@ -70,8 +70,8 @@ no-end : {A : Type 0} (a : A) → _≡_ {A = Option A} none (some a) → ⊥
 no-end a e = let no : _≡_ {A = ℕ} 0 1 = cc in omega arith
 
 -- The sum rule does not look at the ticks left.
-same-sum : (n : ℕ) → sum32 n ≡ sum32 0
-unfolding sum32
+same-sum : (n : ℕ) → sums n ≡ sums 0
+unfolding stopping
 same-sum n = refl
 
 module _ {M : Type 0} (s : Machine) (m : M) where
@@ -104,25 +104,25 @@ module _ {M : Type 0} (s : Machine) (m : M) where
 -- The run of a code's machine with n ticks left
 abbrev pub run-on : {M Name : Type 0} → ℕ → Memory M Name → List (Record Name) → ℕ → Machine → M
     → Result (Rules.Machine M)
-run-on D o P n s m = run sum32 D o P n (s .mark) (machine-of s m)
+run-on D o P n s m = run sums D o P n (s .mark) (machine-of s m)
 
 -- ---- A step
 
 module _ {M Name : Type 0} (D : ℕ) (o : Memory M Name) (P : List (Record Name)) (last : ℕ) (all : length P ≡ last)
     (s : Machine) (m : M) (r : Record Name) (due : getElem? P (s .position) ≡ some r) where
   abbrev outcome : Outcome (Rules.Machine M) Fault (Unit {0})
-  outcome = act (sum32 0) D o last r (machine-of s m)
+  outcome = act (sums 0) D o last r (machine-of s m)
 
   -- the run after an outcome that goes on, and after one that ends
   abbrev onward : ℕ → Rules.Machine M → Result (Rules.Machine M)
-  onward n t = run sum32 D o P n (max (s .mark) (t .size)) t
+  onward n t = run sums D o P n (max (s .mark) (t .size)) t
 
   abbrev faulted : ℕ → Fault → Result (Rules.Machine M)
   faulted n e = result (fault e) n (s .mark) (machine-of s m)
 
   by-step : (n n′ : ℕ) → n ≡ suc n′ → run-on D o P n s m ≡ after outcome (onward n′) (faulted n′)
   by-step n n′ e =
-      ap (λ n. run-on D o P n s m) e ∙ run-step sum32 D o P n′ r (s .mark) (machine-of s m) due
+      ap (λ n. run-on D o P n s m) e ∙ run-step sums D o P n′ r (s .mark) (machine-of s m) due
       ∙ (λ i. after (act (same-sum n′ i) D o (all i) r (machine-of s m)) (onward n′) (faulted n′))
 
   -- A step that goes on: the run goes on from the machine that it leaves,
@@ -133,7 +133,7 @@ module _ {M Name : Type 0} (D : ℕ) (o : Memory M Name) (P : List (Record Name)
       let w = went-on s m outcome s′ m′ step in
       by-step n n′ e
       ∙ ap (λ x. after x (onward n′) (faulted n′)) (w .0)
-      ∙ ap (λ μ. run sum32 D o P n′ μ (machine-of s′ m′)) (sym (w .2))
+      ∙ ap (λ μ. run sums D o P n′ μ (machine-of s′ m′)) (sym (w .2))
 
   -- which stands within its code, its values within its mark and that within D, the record counted.
   stays : (s′ : Machine) (m′ : M) → s .position < last → s .size ≤ s .mark → s .mark ≤ D
@@ -141,7 +141,7 @@ module _ {M Name : Type 0} (D : ℕ) (o : Memory M Name) (P : List (Record Name)
       → (s′ .position ≤ last) × (s′ .size ≤ s′ .mark) × (s′ .mark ≤ D) × (s′ .count ≡ s .count + 1)
   stays s′ m′ l h d step =
       let w = went-on s m outcome s′ m′ step in
-      let b = act-within (sum32 0) D o last (λ _. Unit {0})
+      let b = act-within (sums 0) D o last (λ _. Unit {0})
       (record { saved = λ m x z q. tt; poked = λ m i z l q. tt })
       r (s .position) (s .size) m (machine-of s′ m′) (w .0) l (omega arith) tt in
       let deep : s′ .size ≤ D = b .1 in
@@ -209,7 +209,7 @@ module _ {M Name : Type 0} {course : Course M Name} {s : Machine} {m : M} (g : G
   -- At the end position the run is done.
   pub ends-done : s .position ≡ last → result Ends.done left (s .mark) (machine-of s m) ≡ whole-run course
   ends-done e =
-      sym (run-done sum32 D o P left (s .mark) (machine-of s m) (none-due P (s .position) (omega (arith, all))))
+      sym (run-done sums D o P left (s .mark) (machine-of s m) (none-due P (s .position) (omega (arith, all))))
       ∙ g .same
 
   -- Elsewhere it is spent when the count is the budget.
@@ -219,7 +219,7 @@ module _ {M Name : Type 0} {course : Course M Name} {s : Machine} {m : M} (g : G
       let here = in-list P (s .position) (omega (arith, g .placed, all)) in
       let none-left : left ≡ 0 = omega arith in
       ap (λ n. result Ends.spent n (s .mark) (machine-of s m)) none-left
-      ∙ sym (run-spent sum32 D o P (here .0) (s .mark) (machine-of s m) (here .1))
+      ∙ sym (run-spent sums D o P (here .0) (s .mark) (machine-of s m) (here .1))
       ∙ ap (λ n. run-on D o P n s m) (sym none-left)
       ∙ g .same
 
@@ -279,7 +279,7 @@ pub told : {M Name : Type 0} (D : ℕ) (o : Memory M Name) (P : List (Record Nam
     {a : Code.Run} (r : Halted) (m′ : M) → s ≡ fresh-machine
     → a ≡ Code.Run.Ended (r .end) (r .machine .count) (r .machine .mark)
     → r .machine .count ≤ budget → halted-result budget r m′ ≡ run-on D o P (budget - s .count) s m
-    → let R = run sum32 D o P budget 0 (fresh m) in
+    → let R = run sums D o P budget 0 (fresh m) in
     _≡_ {A = Answer Ran × M} (run-answer a, m′) (gives (report budget R), R .leaves .memory)
 told D o P budget m r m′ is-fresh answer within same =
     (λ i. (run-answer (answer i), m′))
@@ -289,16 +289,16 @@ told D o P budget m r m′ is-fresh answer within same =
     count : r .machine .count ≡ budget - (budget - r .machine .count)
     count = omega arith
 
-    whole : halted-result budget r m′ ≡ run sum32 D o P budget 0 (fresh m)
+    whole : halted-result budget r m′ ≡ run sums D o P budget 0 (fresh m)
     whole =
         same
         ∙ ap (λ (s : Machine). run-on D o P (budget - s .count) s m) is-fresh
-        ∙ ap (λ (n : ℕ). run sum32 D o P n 0 (fresh m)) (sub-zero budget)
+        ∙ ap (λ (n : ℕ). run sums D o P n 0 (fresh m)) (sub-zero budget)
 
 -- Of a run of machine code from a state, likewise, where the count is within its limit.
 module _ (D : ℕ) (P : MachineCode) (budget : ℕ) (s : State) (m : List ℤ) where
   abbrev R : Result (Rules.Machine (List ℤ))
-  R = run-from P m D s budget
+  R = run-from sums P m D s budget
 
   pub told-from : {limit : ℕ} {first : Machine} (a : Machined.Piece) (r : Halted) (m′ : List ℤ)
       → first ≡ resumed-machine s → limit ≡ s .count + budget
@@ -319,11 +319,11 @@ module _ (D : ℕ) (P : MachineCode) (budget : ℕ) (s : State) (m : List ℤ) w
       whole =
           same
           ∙ ap (λ (first : Machine). run-on D (machine-cells D) P (limit - first .count) first m) is-first
-          ∙ ap (λ (n : ℕ). run sum32 D (machine-cells D) P n (s .mark) (at (s .position) (s .size) m)) ticks
+          ∙ ap (λ (n : ℕ). run sums D (machine-cells D) P n (s .mark) (at (s .position) (s .size) m)) ticks
 
       count : r .machine .count ≡ s .count + (budget - (limit - r .machine .count))
       count =
           let left : limit - r .machine .count ≡ R .left = ap
           (λ (r : Result (Rules.Machine (List ℤ))). r .left) whole in
-          let most = left-most sum32 D (machine-cells D) P budget (s .mark) (at (s .position) (s .size) m) in
+          let most = left-most sums D (machine-cells D) P budget (s .mark) (at (s .position) (s .size) m) in
           omega (arith, within, is-limit, most)

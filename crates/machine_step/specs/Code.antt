@@ -6,13 +6,13 @@ use Rattle.base.specs.Ends as Ends
 use Rattle.base.specs.Ends.{Fault, fault, Result, result}
 use Rattle.base.specs.Code.{end-of}
 use Rattle.base.specs.declared.End.{End}
-use Rattle.word.specs.Sums.{sum32}
 use Rattle.word.specs.declared.Target.{Target}
 use Rattle.word.specs.declared.Target.the-variants.{To, Astray}
 use Rattle.record.specs.Records.{Record}
 use Rattle.machine.specs.Machine as Rules
 use Rattle.machine.specs.Machine.{Memory, at, act}
 use Rattle.machine.specs.declared.State.{State}
+use Rattle.machine.specs.Calls.{sums}
 use Rattle.machine_step.specs.declared.Machine.{Machine}
 use Rattle.machine_step.specs.declared.Step.{Step}
 use Rattle.machine_step.specs.declared.Step.the-variants.{Next, Ended}
@@ -67,7 +67,7 @@ counted s m (ended e) =
 
 -- What a record does to a machine, counted
 abbrev pub does : {M Name : Type 0} → ℕ → Memory M Name → ℕ → Machine → M → Record Name → Stepped M
-does D o last s m r = counted s m (act (sum32 0) D o last r (machine-of s m))
+does D o last s m r = counted s m (act (sums 0) D o last r (machine-of s m))
 
 -- A run: the ticks left are the budget less the count
 abbrev pub halted-result : {M : Type 0} → ℕ → Halted → M → Result (Rules.Machine M)

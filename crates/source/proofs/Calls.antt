@@ -6,16 +6,15 @@ use lib.ListN.{length}
 use borrow.Author.Tests.{eq-eqb, ne-eqb}
 use Rattle.base.specs.Answers.{gives, refused, and-then, settle}
 use Rattle.base.specs.Ends.{report}
-use Rattle.word.specs.Sums.{sum32}
 use Rattle.text.specs.Syntax.{Command}
 use Rattle.text.specs.Reading.{read-text}
 use Rattle.source.specs.Rules.{Store, run-rules}
-use Rattle.source.specs.Calls.{source-tests, run-source}
+use Rattle.source.specs.Calls.{sums, source-tests, run-source}
 
 pub source-runs : (text : List ℕ) (c : Command) (store : Store) (budget : ℕ) → read-text text ≡ gives c
     → length store ≡ 64
     → run-source text store budget
-    ≡ (gives (report budget (run-rules sum32 c budget store)), run-rules sum32 c budget store .leaves)
+    ≡ (gives (report budget (run-rules sums c budget store)), run-rules sums c budget store .leaves)
 unfolding run-source source-tests settle and-then
 source-runs text c store budget read long = simp (read, eq-eqb (length store) 64 long)
 

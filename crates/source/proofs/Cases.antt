@@ -8,7 +8,7 @@ use Rattle.base.specs.Acts.{then′, give}
 use Rattle.base.specs.Answers.{gives, and-then, settle, previewed}
 use Rattle.base.specs.Ends.{End, Result, result, ran, report}
 use Rattle.word.specs.Numbers.{number-of, number-at, byte-number}
-use Rattle.word.specs.Sums.{limited, sum32}
+use Rattle.word.specs.Sums.{limited, stopping}
 use Rattle.text.specs.Reading.{expression-byte, condition-byte, command-byte, decline, there, due, pass, operand}
 use Rattle.text.specs.Reading.{number-due, number, expression-of, expression, condition-of, condition, command-of}
 use Rattle.text.specs.Reading.{command, all-read, read-text}
@@ -18,20 +18,20 @@ use Rattle.text.specs.Cases.{texts}
 use Rattle.source.specs.Rules.{Store, start, run-rules}
 use Rattle.source.specs.Rules.{charge, tick, raise, lower, cell, assign, in-range, add, value, truth, loop, exec}
 use Rattle.source.specs.Rules.{end-of, result-of}
-use Rattle.source.specs.Calls.{source-tests, run-source, preview-source}
+use Rattle.source.specs.Calls.{sums, source-tests, run-source, preview-source}
 use Rattle.source.specs.Cases.{zeros, Tallies, MarkTickByTick, Forever, Declines, Previews, PreviewDeclines}
 use Rattle.source.proofs.Calls.{source-runs}
 
 pub tallies : Tallies
 unfolding texts A·text B·text C·text D·text E·text F·text G·text H·text I·text J·text K·text zeros
-    then′ give and-then settle number-of number-at limited sum32
+    then′ give and-then settle number-of number-at limited stopping
     expression-byte condition-byte command-byte decline there due pass operand number-due number
     expression-of expression condition-of condition command-of command all-read read-text
     charge tick raise lower cell assign in-range add value truth loop exec end-of result-of source-tests run-source
 tallies = refl
 
 pub mark-tick-by-tick : MarkTickByTick
-unfolding zeros then′ give and-then settle byte-number limited sum32
+unfolding zeros then′ give and-then settle byte-number limited stopping
     expression-byte condition-byte command-byte decline there due pass operand number-due number
     expression-of expression condition-of condition command-of command all-read read-text
     charge tick raise lower cell assign in-range add value truth loop exec end-of result-of source-tests run-source
@@ -41,13 +41,13 @@ mark-tick-by-tick = refl
 
 -- J's command: the passes allowed are always enough, and each takes a tick and changes nothing
 forever-loop : (g n : ℕ) (s : Store) → n < g
-    → result-of (loop sum32 g (truth sum32 (Bc true) false) (exec sum32 SKIP) (start n s)) ≡ result End.spent 0 0 s
+    → result-of (loop sums g (truth sums (Bc true) false) (exec sums SKIP) (start n s)) ≡ result End.spent 0 0 s
 unfolding loop truth exec give then′ tick charge result-of end-of
 forever-loop zero n s l = absurd (omega arith)
 forever-loop (suc g) zero s l = refl
 forever-loop (suc g) (suc n) s l = forever-loop g n s (omega arith)
 
-forever-rules : (n : ℕ) (s : Store) → run-rules sum32 (WHILE (Bc true) DO SKIP) n s ≡ result End.spent 0 0 s
+forever-rules : (n : ℕ) (s : Store) → run-rules sums (WHILE (Bc true) DO SKIP) n s ≡ result End.spent 0 0 s
 unfolding exec
 forever-rules n s = forever-loop (suc n) n s (omega arith)
 
@@ -80,7 +80,7 @@ declines = record {
 -- ---- Previews
 
 pub previews : Previews
-unfolding then′ give and-then settle previewed byte-number limited sum32
+unfolding then′ give and-then settle previewed byte-number limited stopping
     expression-byte condition-byte command-byte decline there due pass operand number-due number
     expression-of expression condition-of condition command-of command all-read read-text
     charge tick raise lower cell assign in-range add value truth loop exec end-of result-of

@@ -11,7 +11,7 @@ use Rattle.base.specs.Acts.{_>>=_, _>>_, give, if_then_else_}
 use Rattle.base.specs.Answers.{gives, unless_refuse_at_else_, and-then, settle, previewed}
 use Rattle.base.specs.Ends.{report}
 use Rattle.base.proofs.Settled.{unless-same}
-use Rattle.word.specs.Sums.{SumRule, sum32}
+use Rattle.word.specs.Sums.{SumRule}
 use Rattle.text.specs.Syntax.{Expression, Constant, Variable, Plus, Condition, Bc, Not, And, Less, Command, SKIP}
 use Rattle.text.specs.Syntax.{_:=_, _⨾_, IF_THEN_ELSE_, WHILE_DO_}
 use Rattle.text.specs.Reading.{read-text}
@@ -19,7 +19,7 @@ use Rattle.text.specs.Respelling.{expression-in-full, condition-in-full, in-ful
 use Rattle.text.proofs.Respelling.{of-both}
 use Rattle.source.specs.Rules.{Store, start, tick, lower, assign, add, value, truth, loop, exec, result-of}
 use Rattle.source.specs.Rules.{run-rules}
-use Rattle.source.specs.Calls.{source-tests, run-source, preview-source}
+use Rattle.source.specs.Calls.{sums, source-tests, run-source, preview-source}
 use Rattle.source.specs.Claims.{SameRuns}
 
 module _ (sum : SumRule) where
@@ -53,8 +53,8 @@ module _ (sum : SumRule) where
 
 module _ (text other : List ℕ) (c d : Command) (e : read-text text ≡ gives c) (f : read-text other ≡ gives d)
     (r : Respelled c d) where
-  run : (store : Store) (budget : ℕ) → run-rules sum32 c budget store ≡ run-rules sum32 d budget store
-  run store budget = ap (λ rule. result-of (rule (start budget store))) (same-runs sum32 c d r)
+  run : (store : Store) (budget : ℕ) → run-rules sums c budget store ≡ run-rules sums d budget store
+  run store budget = ap (λ rule. result-of (rule (start budget store))) (same-runs sums c d r)
 
   pub run-same : (store : Store) (budget : ℕ) → run-source text store budget ≡ run-source other store budget
   unfolding run-source source-tests and-then settle

@@ -10,19 +10,18 @@ use Rattle.base.specs.Acts.{ok, ended}
 use Rattle.base.specs.Answers.{Answer, gives}
 use Rattle.base.specs.Ends.{Fault, End, fault, Result, Ran, ran, report}
 use Rattle.base.proofs.Answers.{gives-one}
-use Rattle.word.specs.Sums.{sum32}
 use Rattle.word.proofs.Claims.{exact}
 use Rattle.text.specs.Syntax.{Command}
 use Rattle.text.specs.Reading.{read-text}
 use Rattle.source.specs.BigStep.{BigStep}
-use Rattle.source.specs.Calls.{run-source}
+use Rattle.source.specs.Calls.{sums, run-source}
 use Rattle.source.specs.Claims.{Published, PublishedTexts}
 use Rattle.source.specs.Rules.{Early, State, Store, Outcomes, start, exec, end-of, result-of, run-rules}
 use Rattle.source.proofs.Calls.{source-runs}
 use Rattle.source.proofs.Equivalence.{published-by}
 
 pub published : Published
-published = published-by sum32 exact
+published = published-by sums exact
 
 -- an outcome whose result is done
 done-outcome : (x : Outcomes (Unit {0})) → result-of x .end ≡ End.done
@@ -34,7 +33,7 @@ done-outcome (ended (Early.out-of-range, s)) e = absurd (let z : _≡_ {A = ℕ}
 
 module _ (text : List ℕ) (c : Command) (read : read-text text ≡ gives c) (s : Store) (long : length s ≡ 64) where
   abbrev outcome : ℕ → Outcomes (Unit {0})
-  outcome budget = exec sum32 c (start budget s)
+  outcome budget = exec sums c (start budget s)
 
   -- what the call tells of an outcome
   abbrev telling : ℕ → Outcomes (Unit {0}) → Answer Ran × Store
@@ -64,7 +63,7 @@ module _ (text : List ℕ) (c : Command) (read : read-text text ≡ gives c) (s 
   unfolding result-of end-of
   same-stores fine t = (to, back)
     where
-      rules : ((n : ℕ) × (u : State) × (exec sum32 c (start n s) ≡ ok tt u) × (u .store ≡ t)) ↔ BigStep c s t
+      rules : ((n : ℕ) × (u : State) × (exec sums c (start n s) ≡ ok tt u) × (u .store ≡ t)) ↔ BigStep c s t
       rules = published c s (λ n u e. fine n (n - u .left) (u .mark) (u .store) (told n ∙ ap (telling n) e)) t
 
       to : Done t → BigStep c s t

@@ -11,13 +11,13 @@ use lib.ListN.{length}
 use Rattle.base.specs.Acts.{ok, ended, _>>=_, _>>_, give, if_then_else_}
 use Rattle.base.specs.Answers.{gives}
 use Rattle.base.specs.Ends.{Fault, End, fault, ran}
-use Rattle.word.specs.Sums.{SumRule, sum32}
+use Rattle.word.specs.Sums.{SumRule}
 use Rattle.word.specs.declared.Sum.the-variants.{Fits}
 use Rattle.text.specs.Syntax.{Condition, Command, WHILE_DO_}
 use Rattle.text.specs.Reading.{read-text}
 use Rattle.text.specs.Respelling.{Respelled}
 use Rattle.source.specs.BigStep.{BigStep}
-use Rattle.source.specs.Calls.{run-source}
+use Rattle.source.specs.Calls.{sums, run-source}
 use Rattle.source.specs.Rules.{Early, State, Store, start, Ending, tick, truth, exec}
 
 -- ---- WHILE
@@ -40,7 +40,7 @@ PublishedBy sum = (c : Command) (s : Store)
 
 -- By document 01's rule for sums, which all calls name.
 abbrev pub Published : Type 0
-Published = PublishedBy sum32
+Published = PublishedBy sums
 
 -- The same of texts and of the call run_source, which runs by that rule.
 pub record PublishedText (text : List ℕ) (c : Command) (s : Store) : Type 0 where

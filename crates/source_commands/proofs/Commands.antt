@@ -5,13 +5,13 @@ use Prim.Native.Nat.{ℕ}
 use mathlib.Core.Bool.{Bool, true, false}
 use lib.IntN.{ℤ}
 use Rattle.base.specs.Acts.{Outcome, ok, ended, then′, _>>=_, _>>_, give, if_then_else_}
-use Rattle.word.specs.Sums.{sum32}
 use Rattle.text.specs.Syntax.{Expression, Condition, Command, SKIP, _:=_, _⨾_, IF_THEN_ELSE_, WHILE_DO_}
 use Rattle.base.specs.Answers.{Refusal}
 use Rattle.text.specs.Reading.{Reader}
 use Rattle.text.proofs.Opened.{One, Two, Three}
 use Rattle.source.specs.Rules.{Early, spent, State, Ending, Rule, tick, exec}
 use Rattle.source.proofs.Passes as Passes
+use Rattle.source.specs.Calls.{sums}
 use Rattle.source_values.specs.Placed.{Read, _upto_, placed, reaching}
 use Rattle.source_values.proofs.Steps.{left-so, one-on, tick-none, tick-one, placed-is, gave, stopped, begin-ended}
 use Rattle.source_values.proofs.Steps.{begin-ok}
@@ -23,7 +23,7 @@ abbrev Reading : Type 0 → Type 0
 Reading A = Outcome ℕ Refusal A
 
 abbrev pub doing : Command → Rule (Unit {0})
-doing = exec sum32
+doing = exec sums
 
 -- ---- SKIP: none
 
@@ -130,7 +130,7 @@ module _ {x : Reading Condition} {y : Reader Command} {c : Command} {n : ℕ} {w
   while-is : placed doing whole s ≡ reaching n (then′ (under false (t .one) s) pass)
   while-is =
       placed-is doing s w
-      ∙ ap (reaching n) (ap (λ c. doing c s) (t .is) ∙ Passes.again sum32 (t .one) (t .two) s)
+      ∙ ap (reaching n) (ap (λ c. doing c s) (t .is) ∙ Passes.again sums (t .one) (t .two) s)
 
   pub while-ended : {e : Early × Ending} → placed (under false) x s ≡ ended e → placed doing whole s ≡ ended e
   unfolding then′

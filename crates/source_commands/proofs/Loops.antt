@@ -8,13 +8,13 @@ use mathlib.Core.Bool.{Bool, true, false, not}
 use mathlib.Core.List.{List}
 use lib.ListN.{length}
 use Rattle.base.specs.Acts.{Outcome, ok}
-use Rattle.word.specs.Sums.{sum32}
 use Rattle.text.specs.Syntax.{Condition, Command, _⨾_, WHILE_DO_}
 use Rattle.base.specs.Answers.{Refusal}
 use Rattle.text.specs.Reading.{Reader, command}
 use Rattle.text.proofs.Opened.{Two}
 use Rattle.source.specs.Rules.{State, Outcomes}
 use Rattle.source.proofs.Ticks.{Low, low-truth, low-exec}
+use Rattle.source.specs.Calls.{sums}
 use Rattle.source_values.specs.Placed.{Read, _upto_, placed}
 use Rattle.source_values.proofs.Steps.{gave}
 use Rattle.source_values.proofs.Compound.{under}
@@ -69,5 +69,5 @@ pub no-higher : {x : Outcome ℕ Refusal Condition} {y : Reader Command} {c : Co
     → {v : Bool} {m j : ℕ} {u r : State} → placed (under false) x s ≡ ok (v upto m) u
     → placed doing (y m) u ≡ ok (tt upto j) r → r .left ≤ s .left
 no-higher w t s {u = u} p q =
-    let h = low-left (gave (under false) s (t .first) p .0) (low-truth sum32 (t .one) false (s .left) s (le-refl _)) in
-    low-left (gave doing u (body-at w t s p) q .0) (low-exec sum32 (t .two) (s .left) u h)
+    let h = low-left (gave (under false) s (t .first) p .0) (low-truth sums (t .one) false (s .left) s (le-refl _)) in
+    low-left (gave doing u (body-at w t s p) q .0) (low-exec sums (t .two) (s .left) u h)

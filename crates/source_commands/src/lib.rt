@@ -5,10 +5,10 @@ ghost use mathlib.Core.List.{List};
 ghost use Prim.Native.Nat.{ℕ, _<_};
 ghost use lib.IntN.{ℤ};
 ghost use lib.ListN.{length, getD};
-ghost use Rattle.word.specs.Sums.{sum32};
 ghost use Rattle.text.specs.Reading.{command};
 ghost use Rattle.text_ends.specs.Ends.{PartEnds};
 ghost use Rattle.source.specs.Rules.{state, tick, exec};
+ghost use Rattle.source.specs.Calls.{sums};
 ghost use Rattle.source_values.specs.Placed.{Read, placed, up-to};
 ghost use Rattle.source_commands.specs.Code.{went, storing};
 use base::VARIABLES;
@@ -73,7 +73,7 @@ fn assignment(
     requires { ⌜ Read (command (now text) nest at) ⌝ }
     requires { ⌜ length (now store) ≡ 64 ⌝ }
     ensures { λ r. ⌜ went r (now (left .exit)) (now (mark .exit)) (now (store .exit))
-        ≡ placed (exec sum32) (command (now (text .entry)) nest at)
+        ≡ placed (exec sums) (command (now (text .entry)) nest at)
         (state (now (left .entry)) 0 (now (mark .entry)) (now (store .entry))) ⌝ }
     ensures { λ r. ⌜ length (now (store .exit)) ≡ 64 ⌝ }
 {
@@ -105,7 +105,7 @@ pub fn execute(
     requires { ⌜ length (now store) ≡ 64 ⌝ }
     requires { ⌜ PartEnds (now text) (now ends) ⌝ }
     ensures { λ r. ⌜ went r (now (left .exit)) (now (mark .exit)) (now (store .exit))
-        ≡ placed (exec sum32) (command (now (text .entry)) deepest start)
+        ≡ placed (exec sums) (command (now (text .entry)) deepest start)
         (state (now (left .entry)) 0 (now (mark .entry)) (now (store .entry))) ⌝ }
     ensures { λ r. ⌜ length (now (store .exit)) ≡ 64 ⌝ }
 {
@@ -145,7 +145,7 @@ fn choice(
     requires { ⌜ length (now store) ≡ 64 ⌝ }
     requires { ⌜ PartEnds (now text) (now ends) ⌝ }
     ensures { λ r. ⌜ went r (now (left .exit)) (now (mark .exit)) (now (store .exit))
-        ≡ placed (exec sum32) (command (now (text .entry)) nest at)
+        ≡ placed (exec sums) (command (now (text .entry)) nest at)
         (state (now (left .entry)) 0 (now (mark .entry)) (now (store .entry))) ⌝ }
     ensures { λ r. ⌜ length (now (store .exit)) ≡ 64 ⌝ }
 {
@@ -180,7 +180,7 @@ fn repeat(
     requires { ⌜ length (now store) ≡ 64 ⌝ }
     requires { ⌜ PartEnds (now text) (now ends) ⌝ }
     ensures { λ r. ⌜ went r (now (left .exit)) (now (mark .exit)) (now (store .exit))
-        ≡ placed (exec sum32) (command (now (text .entry)) nest at)
+        ≡ placed (exec sums) (command (now (text .entry)) nest at)
         (state (now (left .entry)) 0 (now (mark .entry)) (now (store .entry))) ⌝ }
     ensures { λ r. ⌜ length (now (store .exit)) ≡ 64 ⌝ }
 {

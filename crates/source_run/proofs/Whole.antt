@@ -15,7 +15,6 @@ use Rattle.base.specs.Ends.{Ran, report}
 use Rattle.base.specs.declared.Refusal.{Refusal}
 use Rattle.base.proofs.Answers.{gives-one}
 use Rattle.base.proofs.Settled.{needed, unless-passed, refused-first, declined, preview-made, preview-declined}
-use Rattle.word.specs.Sums.{sum32}
 use Rattle.text.specs.Syntax.{Command}
 use Rattle.text.specs.Reading.{command, read-text}
 use Rattle.text.specs.Sizes.{sizes}
@@ -29,7 +28,7 @@ use Rattle.text.proofs.Longer.{command-longer}
 use Rattle.text_ends.specs.Ends.{PartEnds}
 use Rattle.text_ends.proofs.Longer.{ends-longer}
 use Rattle.source.specs.Rules.{Store, start, Outcomes, result-of}
-use Rattle.source.specs.Calls.{source-tests, run-source, preview-source}
+use Rattle.source.specs.Calls.{sums, source-tests, run-source, preview-source}
 use Rattle.source.proofs.Calls.{source-runs}
 use Rattle.source.proofs.Ticks.{Low, low-exec}
 use Rattle.source_values.specs.Placed.{Read, placed}
@@ -115,7 +114,7 @@ module _ (text : List ℕ) {c : Command} {n : ℕ} (part : command text 64 0 ≡
   by-rules o d = sym (ap (λ o. (gives (report budget (result-of o)), result-of o .leaves)) d)
 
   low : (o : Outcomes (Unit {0})) → doing c (start budget store) ≡ o → Low budget o
-  low o d = subst (Low budget) d (low-exec sum32 c budget (start budget store) (le-refl budget))
+  low o d = subst (Low budget) d (low-exec sums c budget (start budget store) (le-refl budget))
 
   pub tells : (r : Progress) (left μ : ℕ) (m : Store)
       → went r left μ m ≡ placed doing (command text 64 0) (start budget store) → Tells c budget store r left μ m

@@ -6,10 +6,10 @@ use lib.ListN.{length}
 use Rattle.base.specs.Acts.{ok}
 use Rattle.base.specs.Answers.{Answer, gives}
 use Rattle.base.specs.Ends.{End, done, Ran, ran, report}
-use Rattle.word.specs.Sums.{sum32}
 use Rattle.text.specs.Syntax.{Command}
 use Rattle.text.specs.Reading.{command, read-text}
 use Rattle.source.specs.Rules.{Store, end-of, run-rules}
+use Rattle.source.specs.Calls.{sums}
 use Rattle.source_values.specs.Code.{early}
 use Rattle.source_commands.specs.declared.Progress.{Progress}
 use Rattle.source_commands.specs.declared.Progress.the-variants.{On, Ended}
@@ -26,7 +26,7 @@ told progress budget left mark = ran (run-end progress) (budget - left) mark
 
 -- What a run of a command tells, and the store that it leaves
 abbrev pub runs : Command → ℕ → Store → Answer Ran × Store
-runs c budget store = let r = run-rules sum32 c budget store in (gives (report budget r), r .leaves)
+runs c budget store = let r = run-rules sums c budget store in (gives (report budget r), r .leaves)
 
 -- So it is of the command that stands at a text's start
 abbrev pub Runs : List ℕ → ℕ → Store → Answer Ran × Store → Type 0

@@ -5,12 +5,12 @@ use Prim.Native.Nat.{ℕ}
 use mathlib.Core.Bool.{Bool, true, false, not}
 use lib.IntN.{ℤ}
 use Rattle.base.specs.Acts.{Outcome, ok, ended, then′, _>>=_, give, if_then_else_}
-use Rattle.word.specs.Sums.{sum32}
 use Rattle.text.specs.Syntax.{Expression, Plus, Condition, Not, And, Less}
 use Rattle.base.specs.Answers.{Refusal}
 use Rattle.text.specs.Reading.{Reader}
 use Rattle.text.proofs.Opened.{One, Two}
 use Rattle.source.specs.Rules.{Early, State, Ending, Rule, Outcomes, value, truth}
+use Rattle.source.specs.Calls.{sums}
 use Rattle.source_values.specs.Placed.{Read, _upto_, placed, reaching, inverse}
 use Rattle.source_values.specs.Code.{summing, comparing}
 use Rattle.source_values.proofs.Steps.{placed-is, passed, begin-ended, begin-ok, second-at}
@@ -20,10 +20,10 @@ abbrev Reading : Type 0 → Type 0
 Reading A = Outcome ℕ Refusal A
 
 abbrev pub valuing : Expression → Rule ℤ
-valuing = value sum32
+valuing = value sums
 
 abbrev pub under : Bool → Condition → Rule Bool
-under flag b = truth sum32 b flag
+under flag b = truth sums b flag
 
 -- ---- Plus and Less: two expressions, and then `last` with their values
 
@@ -52,7 +52,7 @@ module _ {C Z : Type 0} (k : C → Rule Z) {h : Expression → Expression → C}
     both-ok q = right-is ∙ then-ok valuing (last v) (y m) u q
 
 pub plus-does : (a b : Expression) (s : State)
-    → value sum32 (Plus a b) s ≡ (valuing a >>= λ x. valuing b >>= summing x) s
+    → value sums (Plus a b) s ≡ (valuing a >>= λ x. valuing b >>= summing x) s
 unfolding value
 plus-does a b s = refl
 

@@ -6,9 +6,9 @@ use Prim.Native.Nat.{ℕ, suc, _+_, _≤_, max}
 use lib.IntN.{ℤ}
 use lib.Signed.{ltZ}
 use Rattle.base.specs.Acts.{ok, ended, _>>_, give}
-use Rattle.word.specs.Sums.{sum32}
 use Rattle.source.specs.Rules as Rules
 use Rattle.source.specs.Rules.{Store, Rule, Outcomes, state, ending, tick, lower, add}
+use Rattle.source.specs.Calls.{sums}
 use Rattle.source_values.specs.Placed.{Reached, _upto_}
 use Rattle.source_values.specs.declared.Early.{Early}
 use Rattle.source_values.specs.declared.Early.the-variants.{Spent, OutOfRange}
@@ -41,7 +41,7 @@ Within (EndedValue e high) most = high ≤ most
 
 -- What is done once both sides of a Plus, or of a Less, have their values
 abbrev pub summing : ℤ → ℤ → Rule ℤ
-summing x y = do tick; lower 1; add sum32 x y
+summing x y = do tick; lower 1; add sums x y
 
 abbrev pub comparing : ℤ → ℤ → Rule Bool
 comparing x y = do tick; lower 2; give (ltZ x y)

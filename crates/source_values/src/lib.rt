@@ -7,12 +7,12 @@ ghost use Prim.Native.Nat.{ℕ, suc, _+_, _≤_, _<_, max};
 ghost use lib.Dec.{eqb};
 ghost use lib.IntN.{ℤ};
 ghost use lib.ListN.{length, getD};
-ghost use Rattle.word.specs.Sums.{sum32};
 ghost use Rattle.text.specs.Syntax.{Constant, Variable, Bc};
 ghost use Rattle.text.specs.Reading.{expression, condition};
 ghost use Rattle.text_shape.specs.Shape.{width-of, constant-width, constant-at};
 ghost use Rattle.text_ends.specs.Ends.{PartEnds};
 ghost use Rattle.source.specs.Rules.{state, value, truth};
+ghost use Rattle.source.specs.Calls.{sums};
 ghost use Rattle.source_values.specs.Placed.{Read, placed, up-to, inverse};
 ghost use Rattle.source_values.specs.Code.{summing, comparing, valued, Evaluates, Within, tested};
 use base::VARIABLES;
@@ -81,7 +81,7 @@ fn constant(text: &[u8; text::LONGEST], at: usize, left: &mut u32) -> Value
     requires { ⌜ at + (1 + constant-width (getD (now text) at 0)) ≤ length (now text) ⌝ }
     ensures { λ r. ⌜ ((m : List ℤ) → Evaluates r (now (left .entry)) (now (left .exit)) m
         (up-to (at + (1 + constant-width (getD (now (text .entry)) at 0)))
-        (value sum32
+        (value sums
         (Constant (width-of (getD (now (text .entry)) at 0)) (constant-at (now (text .entry)) at .value))))) ⌝ }
     ensures { λ r. ⌜ Within r 1 ⌝ }
 {
@@ -110,7 +110,7 @@ fn variable(
     requires { ⌜ at + 1 < 4096 ⌝ }
     requires { ⌜ getD (now text) (at + 1) 0 < 64 ⌝ }
     ensures { λ r. ⌜ Evaluates r (now (left .entry)) (now (left .exit)) (now (store .entry))
-        (up-to (at + 2) (value sum32 (Variable (getD (now (text .entry)) (at + 1) 0)))) ⌝ }
+        (up-to (at + 2) (value sums (Variable (getD (now (text .entry)) (at + 1) 0)))) ⌝ }
     ensures { λ r. ⌜ Within r 1 ⌝ }
 {
     if *left == 0 {
@@ -162,7 +162,7 @@ pub fn evaluate(
     requires { ⌜ length (now text) ≡ 4096 ⌝ }
     requires { ⌜ Read (expression (now text) nest at) ⌝ }
     ensures { λ r. ⌜ Evaluates r (now (left .entry)) (now (left .exit)) (now (store .entry))
-        (placed (value sum32) (expression (now (text .entry)) nest at)) ⌝ }
+        (placed (value sums) (expression (now (text .entry)) nest at)) ⌝ }
     ensures { λ r. ⌜ Within r nest ⌝ }
 {
     let op = text[at];
@@ -192,7 +192,7 @@ fn plus(
     requires { ⌜ length (now text) ≡ 4096 ⌝ }
     requires { ⌜ Read (expression (now text) nest at) ⌝ }
     ensures { λ r. ⌜ Evaluates r (now (left .entry)) (now (left .exit)) (now (store .entry))
-        (placed (value sum32) (expression (now (text .entry)) nest at)) ⌝ }
+        (placed (value sums) (expression (now (text .entry)) nest at)) ⌝ }
     ensures { λ r. ⌜ Within r nest ⌝ }
 {
     match evaluate(text, at + 1, nest - 1, store, left) {
@@ -227,7 +227,7 @@ pub fn right_side(
     requires { ⌜ length (now text) ≡ 4096 ⌝ }
     requires { ⌜ Read (expression (now text) nest at) ⌝ }
     ensures { λ r. ⌜ Evaluates r (now (left .entry)) (now (left .exit)) (now (store .entry))
-        (placed (value sum32) (expression (now (text .entry)) nest at)) ⌝ }
+        (placed (value sums) (expression (now (text .entry)) nest at)) ⌝ }
 {
     if text[at] == PLUS {
         return plus(text, at, nest, store, left);
@@ -241,7 +241,7 @@ pub fn right_side(
 fn bc(text: &[u8; text::LONGEST], at: usize, flag: bool, left: &mut u32) -> Truth
     requires { ⌜ at + 1 < 4096 ⌝ }
     ensures { λ r. ⌜ ((mark : ℕ) (m : List ℤ) → tested r (now (left .exit)) mark m
-        ≡ up-to (at + 2) (truth sum32 (Bc (eqb (getD (now (text .entry)) (at + 1) 0) 1)) flag)
+        ≡ up-to (at + 2) (truth sums (Bc (eqb (getD (now (text .entry)) (at + 1) 0) 1)) flag)
         (state (now (left .entry)) 0 mark m)) ⌝ }
 {
     let value = text[at + 1] == 1;
@@ -302,7 +302,7 @@ fn smaller(
     requires { ⌜ length (now text) ≡ 4096 ⌝ }
     requires { ⌜ Read (condition (now text) nest at) ⌝ }
     ensures { λ r. ⌜ ((flag : Bool) → tested r (now (left .exit)) (now (mark .exit)) (now (store .entry))
-        ≡ placed (λ b. truth sum32 b flag) (condition (now (text .entry)) nest at)
+        ≡ placed (λ b. truth sums b flag) (condition (now (text .entry)) nest at)
         (state (now (left .entry)) 0 (now (mark .entry)) (now (store .entry)))) ⌝ }
 {
     match evaluate(text, at + 1, nest - 1, store, left) {
@@ -347,7 +347,7 @@ pub fn test(
     requires { ⌜ Read (condition (now text) nest at) ⌝ }
     requires { ⌜ PartEnds (now text) (now ends) ⌝ }
     ensures { λ r. ⌜ tested r (now (left .exit)) (now (mark .exit)) (now (store .entry))
-        ≡ placed (λ b. truth sum32 b flag) (condition (now (text .entry)) nest at)
+        ≡ placed (λ b. truth sums b flag) (condition (now (text .entry)) nest at)
         (state (now (left .entry)) 0 (now (mark .entry)) (now (store .entry))) ⌝ }
 {
     let op = text[at];
@@ -384,7 +384,7 @@ pub fn guard(
     requires { ⌜ Read (condition (now text) nest at) ⌝ }
     requires { ⌜ PartEnds (now text) (now ends) ⌝ }
     ensures { λ r. ⌜ tested r (now (left .exit)) (now (mark .exit)) (now (store .entry))
-        ≡ placed (λ b. truth sum32 b false) (condition (now (text .entry)) nest at)
+        ≡ placed (λ b. truth sums b false) (condition (now (text .entry)) nest at)
         (state (now (left .entry)) 0 (now (mark .entry)) (now (store .entry))) ⌝ }
 {
     if text[at] == LESS {

@@ -1,11 +1,11 @@
 -- The rule for sums and signed bytes at their limits, by computation (Cases: SumLimits, ByteLimits).
 use mathlib.Core.Path.{refl}
-use Rattle.word.specs.Sums.{limited, sum32}
+use Rattle.word.specs.Sums.{limited, stopping}
 use Rattle.word.specs.Numbers.{byte-number}
 use Rattle.word.specs.Cases.{SumLimits, ByteLimits}
 
 pub sum-limits : SumLimits
-unfolding sum32 limited
+unfolding stopping limited
 sum-limits = record { greatest-fits = refl; above-greatest = refl; least-fits = refl; below-least = refl }
 
 pub byte-limits : ByteLimits

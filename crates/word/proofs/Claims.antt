@@ -11,7 +11,7 @@ use mir.Val.{toZ, ofZ}
 use mir.Facts.{toZ-ofZ, ofZ-toZ, fits-ofZ, sfits-toZ}
 use Rattle.base.specs.Acts.{if_then_else_}
 use Rattle.word.specs.declared.Sum.the-variants.{Fits, Out}
-use Rattle.word.specs.Sums.{least, greatest, limited, sum32}
+use Rattle.word.specs.Sums.{least, greatest, limited, stopping}
 use Rattle.word.specs.Numbers.{joined, number-of, number-at, split, bits-of, bytes-of, byte-number, byte-of}
 use Rattle.word.specs.Targets.{within, target}
 use Rattle.word.specs.Claims.{Exact, SteadySums, NumberOfBytes, BytesOfNumber, NumbersFit, SignedBytes, Jumps}
@@ -19,7 +19,7 @@ use Rattle.word.proofs.Laws.{joined-again}
 
 -- The rule does not look at the ticks left, by its definition.
 pub steady-sums : SteadySums
-unfolding sum32
+unfolding stopping
 steady-sums n n′ x y = refl
 
 -- A number within two tests is what it was before them.
@@ -29,8 +29,8 @@ kept false true s z e = absurd (let no : _≡_ {A = ℕ} 0 1 = cc in omega arith
 kept false false s z e = cc
 
 -- A sum that fits is the sum.
-pub exact : Exact sum32
-unfolding sum32 limited
+pub exact : Exact stopping
+unfolding stopping limited
 exact n x y z = kept (ltZ (x +ℤ y) least) (ltZ greatest (x +ℤ y)) (x +ℤ y) z
 
 -- A number's four bytes give that number: its bytes joined are its bits, and its bits are read back.

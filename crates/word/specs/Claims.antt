@@ -5,19 +5,19 @@ use mathlib.Core.List.{[], _∷_}
 use lib.IntN.{ℤ, pos, negsuc, _+ℤ_}
 use mir.Syntax.{w8, w32}
 use mir.Val.{SFits}
-use Rattle.word.specs.Sums.{SumRule, Steady, sum32}
+use Rattle.word.specs.Sums.{SumRule, Steady, stopping}
 use Rattle.word.specs.Numbers.{number-of, number-at, bytes-of, byte-number, byte-of}
 use Rattle.word.specs.Targets.{target}
 use Rattle.word.specs.declared.Sum.the-variants.{Fits}
 use Rattle.word.specs.declared.Target.the-variants.{To}
 
--- A sum that fits is the sum. So it is by document 01's rule, `sum32`.
+-- A sum that fits is the sum. So it is by document 01's rule, `stopping`.
 abbrev pub Exact : SumRule → Type 0
 Exact sum = (n : ℕ) (x y z : ℤ) → sum n x y ≡ Fits z → z ≡ x +ℤ y
 
 -- Document 01's rule for sums does not look at the ticks left.
 abbrev pub SteadySums : Type 0
-SteadySums = Steady sum32
+SteadySums = Steady stopping
 
 -- A 32-bit number's four bytes give that number. (SFits w32 z: z is from −2147483648 to 2147483647.)
 abbrev pub NumberOfBytes : Type 0

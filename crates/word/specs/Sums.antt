@@ -28,5 +28,5 @@ abbrev pub Steady : SumRule → Type 0
 Steady sum = (n n′ : ℕ) (x y : ℤ) → sum n x y ≡ sum n′ x y
 
 -- Document 01's rule. It is steady (Claims: SteadySums)
-unfoldable pub sum32 : SumRule
-sum32 left x y = limited (x +ℤ y)
+unfoldable pub stopping : SumRule
+stopping left x y = limited (x +ℤ y)

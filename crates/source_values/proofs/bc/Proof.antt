@@ -3,20 +3,20 @@ use mathlib.Core.Path.{_≡_, sym, ap, _∙_}
 use mathlib.Core.Bool.{Bool, true, false, Bool·beq}
 use borrow.Author.Needs.{needs}
 use Rattle.base.specs.Acts.{then′, _>>_, give, if_then_else_}
-use Rattle.word.specs.Sums.{sum32}
 use Rattle.text.specs.Syntax.{Bc}
 use Rattle.source.specs.Rules.{State, tick, truth}
+use Rattle.source.specs.Calls.{sums}
 use Rattle.source_values.specs.Placed.{reaching}
 use Rattle.source_values.proofs.Steps.{spends, goes}
 use Rattle.source_values.proofs.bc.Statement.{statement}
 use Rattle.source_values.proofs.bc.Tie as tie
 
 -- what the rule does where the value equals the flag, and where it does not
-ticks : (v flag : Bool) (s : State) → Bool·beq v flag ≡ true → truth sum32 (Bc v) flag s ≡ (do tick; give v) s
+ticks : (v flag : Bool) (s : State) → Bool·beq v flag ≡ true → truth sums (Bc v) flag s ≡ (do tick; give v) s
 unfolding truth
 ticks v flag s e = ap (λ b. (if b then (do tick; give v) else give v) s) e
 
-costs-none : (v flag : Bool) (s : State) → Bool·beq v flag ≡ false → truth sum32 (Bc v) flag s ≡ give v s
+costs-none : (v flag : Bool) (s : State) → Bool·beq v flag ≡ false → truth sums (Bc v) flag s ≡ give v s
 unfolding truth
 costs-none v flag s e = ap (λ b. (if b then (do tick; give v) else give v) s) e
 

@@ -8,7 +8,7 @@ use mir.Val.{toZ, ofZ}
 use mir.Facts.{toZ-ofZ}
 use borrow.Author.Needs.{needs}
 use Rattle.base.specs.Acts.{ok, then′, give}
-use Rattle.word.specs.Sums.{limited, sum32}
+use Rattle.word.specs.Sums.{limited, stopping}
 use Rattle.source.specs.Rules.{state, lower, in-range, add}
 use Rattle.source_values.specs.Placed.{_upto_, reaching}
 use Rattle.source_values.proofs.Steps.{spends, goes}
@@ -24,7 +24,7 @@ returns : tie.Need-returns
 returns c = (λ h μ m. sym (spends _ _ _ (c .if1 .taken)), omega arith)
 
 returns-2 : tie.Need-returns-2
-unfolding then′ give lower in-range add sum32
+unfolding then′ give lower in-range add stopping
 returns-2 c =
     let sum : tie.After-add = search in
     let some : tie.Else1 = search in
@@ -42,7 +42,7 @@ returns-2 c =
     )
 
 returns-3 : tie.Need-returns-3
-unfolding then′ give lower in-range add sum32
+unfolding then′ give lower in-range add stopping
 returns-3 c =
     let sum : tie.After-add = search in
     let some : tie.Else1 = search in
