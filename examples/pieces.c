@@ -27,7 +27,8 @@ uint64_t probe_read_back(const uint8_t *table, size_t table_length, const int32_
 /* Of a state's seven words the first four are position, stack size, count and mark; the rest are not used yet. */
 enum { POSITION, STACK_SIZE, WORDS = 7 };
 enum { SPENT = 1 };
-static const char *const ends[] = {"done", "spent", "range", "short", "full", "astray"};
+/* By their numbers; no run has the end of number 2, since sums hold at the limits. */
+static const char *const ends[] = {"done", "spent", "never", "short", "full", "astray"};
 
 /* A profile, compiled and loaded, and the state of its last pause. */
 struct machine {

@@ -4,7 +4,8 @@
 #include <stdint.h>
 #include <string.h>
 
-enum { DONE, SPENT, RANGE, SHORT, FULL, ASTRAY };
+/* By the numbers that the probes give them; 2 is no end. */
+enum { DONE = 0, SPENT = 1, SHORT = 3, FULL = 4, ASTRAY = 5 };
 enum { LOADI, LOAD, ADD, STORE, JMP, JMPLESS, JMPGE };
 
 /* A machine between two records, and the end that it came to. */
@@ -14,6 +15,16 @@ struct state {
     uint32_t count;
     int end;
 };
+
+/* A sum, held at the limits. */
+static inline int32_t held_sum(int32_t x, int32_t y)
+{
+    int32_t sum;
+
+    if (__builtin_add_overflow(x, y, &sum))
+        return x < 0 ? INT32_MIN : INT32_MAX;
+    return sum;
+}
 
 /* From a state on, spent at the count `limit`. `first` is the byte of LOADI. Slot i of the stack is bottom[way * i]; a
  * name's cell is names[name]. */
@@ -55,20 +66,14 @@ static inline __attribute__((always_inline)) struct state run(uint8_t first, con
             if (++size > mark)
                 mark = size;
             break;
-        case ADD: {
+        case ADD:
             if (size < 2) {
                 end = SHORT;
                 goto out;
             }
-            int64_t sum = (int64_t)bottom[way * (size - 2)] + bottom[way * (size - 1)];
-            if (sum < INT32_MIN || sum > INT32_MAX) {
-                end = RANGE;
-                goto out;
-            }
-            bottom[way * (size - 2)] = (int32_t)sum;
+            bottom[way * (size - 2)] = held_sum(bottom[way * (size - 2)], bottom[way * (size - 1)]);
             size--;
             break;
-        }
         case STORE:
             if (size < 1) {
                 end = SHORT;

@@ -4,7 +4,7 @@
 #include <stdint.h>
 #include <string.h>
 
-enum { DONE, SPENT, RANGE };
+enum { DONE, SPENT };
 
 /* Each function gives the position after its part, or NULL once the run has ended. */
 struct run {
@@ -28,6 +28,16 @@ static void push(struct run *run)
 {
     if (++run->height > run->mark)
         run->mark = run->height;
+}
+
+/* A sum, held at the limits. */
+static int32_t held_sum(int32_t x, int32_t y)
+{
+    int32_t sum;
+
+    if (__builtin_add_overflow(x, y, &sum))
+        return x < 0 ? INT32_MIN : INT32_MAX;
+    return sum;
 }
 
 static const uint8_t *expression(struct run *run, const uint8_t *at, int32_t *value)
@@ -57,10 +67,7 @@ static const uint8_t *expression(struct run *run, const uint8_t *at, int32_t *va
         if (!(at = expression(run, at + 1, &x)) || !(at = expression(run, at, &y)) || !tick(run))
             return NULL;
         run->height--;
-        if (__builtin_add_overflow(x, y, value)) {
-            run->end = RANGE;
-            return NULL;
-        }
+        *value = held_sum(x, y);
         return at;
     }
 }
@@ -117,8 +124,8 @@ static const uint8_t *condition(struct run *run, const uint8_t *at, bool flag, b
         *value = at[1] == 1;
         return *value == flag && !tick(run) ? NULL : at + 2;
     case 0x21:
-        at = condition(run, at + 1, !flag, value);
-        *value = !*value;
+        if ((at = condition(run, at + 1, !flag, value)))
+            *value = !*value;
         return at;
     case 0x22:
         if (!(at = condition(run, at + 1, false, value)))

@@ -38,14 +38,14 @@ impl Memory for Cells<'_> {
     }
 }
 
+/// By the numbers that the probes give them; 2 is no end.
 #[derive(Clone, Copy)]
 enum End {
-    Done,
-    Spent,
-    OutOfRange,
-    Short,
-    Full,
-    Astray,
+    Done = 0,
+    Spent = 1,
+    Short = 3,
+    Full = 4,
+    Astray = 5,
 }
 
 fn jump(position: usize, operand: i32, last: usize) -> Result<usize, End> {
@@ -83,8 +83,7 @@ fn step(
             if *size < 2 {
                 return Err(End::Short);
             }
-            let sum = memory.slot(*size - 2).checked_add(*memory.slot(*size - 1)).ok_or(End::OutOfRange)?;
-            *memory.slot(*size - 2) = sum;
+            *memory.slot(*size - 2) = memory.slot(*size - 2).saturating_add(*memory.slot(*size - 1));
             *size -= 1;
             Ok(position + 1)
         }

@@ -19,7 +19,7 @@ const LONG_RUN: u32 = 20_000_000;
 const SKIPPING_RUN: u32 = 1_000_000;
 
 fn loops() {
-    let loops = texts::loops();
+    let loops = [texts::loops(), vec![texts::holding_loop()]].concat();
     runs::source(&loops, LONG_RUN);
     runs::assembly(&loops, LONG_RUN);
     runs::machine("machine code, ns per record", &loops, LONG_RUN);

@@ -89,6 +89,10 @@ pub fn loops() -> Vec<Text> {
     ]
 }
 
+pub fn holding_loop() -> Text {
+    ("holding", holding())
+}
+
 pub fn skipping_loops() -> Vec<Text> {
     vec![
         ("1 assignment", skipping(1)),
@@ -127,6 +131,11 @@ fn straight() -> Vec<u8> {
         }
     });
     repeat(less(variable(0), constant(2_000_000_000)), sequence(body.collect()))
+}
+
+/// WHILE x1 < 2000000000 DO x0 := x0 + 2147483647: the counting loop's records, each sum but the first held
+fn holding() -> Vec<u8> {
+    repeat(less(variable(1), constant(2_000_000_000)), assign(0, plus(variable(0), constant(i32::MAX))))
 }
 
 /// A loop that passes over a branch of so many assignments

@@ -58,7 +58,7 @@ impl Walker<'_> {
                 let (y, next) = self.expression(middle)?;
                 self.tick()?;
                 self.height -= 1;
-                Ok((x.checked_add(y).ok_or(End::OutOfRange)?, next))
+                Ok((x.saturating_add(y), next))
             }
         }
     }

@@ -32,11 +32,11 @@ impl Sizes {
     }
 }
 
+/// How a run ends; since sums hold at the limits (W8), none ends out of range.
 #[derive(Clone, Copy, Debug, PartialEq, Eq)]
 pub enum End {
     Done,
     Spent,
-    OutOfRange,
     Short,
     Full,
     Astray,

@@ -135,7 +135,7 @@ fn ran(packed: u64) -> Ran {
     let end = match (packed >> 8) as u8 {
         0 => End::Done,
         1 => End::Spent,
-        2 => End::OutOfRange,
+        2 => panic!("a run ended out of range: since W8 sums hold at the limits, and no run does"),
         3 => End::Short,
         4 => End::Full,
         5 => End::Astray,

@@ -124,6 +124,13 @@ impl Foreign {
         self.cells = seen.len() as u64;
     }
 
+    /// The same records in assembly, each address being a variable.
+    pub fn assembly(&self) -> Vec<u8> {
+        let mut code = self.code.clone();
+        code.iter_mut().step_by(5).for_each(|first| *first -= 0x10);
+        code
+    }
+
     /// One of its jumps, where it has any, sent out of the code.
     pub fn stray(&mut self, random: &mut Random) {
         let jumps: Vec<usize> = (0..self.code.len()).step_by(5).filter(|&at| self.code[at] >= 0x54).collect();

@@ -122,15 +122,50 @@ pub fn read_text(text: &[u8]) -> Answer<Command> {
     Ok(command)
 }
 
+// ---- Sums (W8)
+
+/// How often sums were held at 2147483647 and at −2147483648.
+#[derive(Clone, Copy, Debug, Default, PartialEq, Eq)]
+pub struct Held {
+    pub above: u32,
+    pub below: u32,
+}
+
+impl Held {
+    /// A sum: "a sum past either limit takes the limit's value". It counts where it is held.
+    fn sum(&mut self, x: i32, y: i32) -> i32 {
+        let sum = x.saturating_add(y);
+        let exact = i64::from(x) + i64::from(y);
+        self.above += u32::from(exact > sum.into());
+        self.below += u32::from(exact < sum.into());
+        sum
+    }
+
+    /// Counts runs: one more at each limit at which this one, where it is not refused, held a sum.
+    pub fn add_run<T>(&mut self, run: Answer<(T, Held)>) {
+        if let Ok((_, held)) = run {
+            self.above += u32::from(held.above > 0);
+            self.below += u32::from(held.below > 0);
+        }
+    }
+
+    /// The fewer of both.
+    pub fn least(self) -> u32 {
+        self.above.min(self.below)
+    }
+}
+
 // ---- Source rules and ticks
 
-/// A run of the source rules: its store, its count, its budget; the values on the stack, and the most that there were.
+/// A run of the source rules: its store, its count, its budget; the values on the stack, and the most that there were;
+/// the sums that it held.
 struct Source<'a> {
     store: &'a mut [i32],
     count: u32,
     budget: u32,
     height: u8,
     mark: u8,
+    held: Held,
 }
 
 impl Source<'_> {
@@ -164,7 +199,7 @@ impl Source<'_> {
                 let (x, y) = (self.value(left)?, self.value(right)?);
                 self.tick()?;
                 self.height -= 1;
-                x.checked_add(y).ok_or(End::OutOfRange)
+                Ok(self.held.sum(x, y))
             }
         }
     }
@@ -472,7 +507,7 @@ fn effect(record: Record) -> (usize, usize) {
 }
 
 /// The record at the position, and the machine after it; or its end, which changes no cell.
-fn step(code: &[Record], memory: &mut dyn Memory, depth: usize, state: State) -> Result<State, End> {
+fn step(code: &[Record], memory: &mut dyn Memory, depth: usize, state: State, held: &mut Held) -> Result<State, End> {
     let (position, size) = (state.position as usize, state.size as usize);
     let record = code[position];
     let (takes, puts) = effect(record);
@@ -484,10 +519,7 @@ fn step(code: &[Record], memory: &mut dyn Memory, depth: usize, state: State) ->
         Loadi(_) | Load(_) if size == depth => return Err(End::Full),
         Loadi(z) => *memory.slot(size) = z,
         Load(name) => *memory.slot(size) = *memory.named(name),
-        Add => {
-            let sum = memory.slot(size - 2).checked_add(*memory.slot(size - 1));
-            *memory.slot(size - 2) = sum.ok_or(End::OutOfRange)?;
-        }
+        Add => *memory.slot(size - 2) = held.sum(*memory.slot(size - 2), *memory.slot(size - 1)),
         Store(name) => *memory.named(name) = *memory.slot(size - 1),
         Jmp(i) => next += i64::from(i),
         Jmpless(i) if *memory.slot(size - 2) < *memory.slot(size - 1) => next += i64::from(i),
@@ -501,9 +533,10 @@ fn step(code: &[Record], memory: &mut dyn Memory, depth: usize, state: State) ->
     Ok(State { position: next as u32, size, mark: state.mark.max(size), ..state })
 }
 
-/// Runs on from a machine, spent at the count `limit`: what the run tells, and the machine as it is then.
-fn run(code: &[Record], memory: &mut dyn Memory, depth: usize, from: State, limit: u32) -> (Ran, State) {
-    let mut state = from;
+/// Runs on from a machine, spent at the count `limit`: what the run tells, the machine as it is then, and the sums that
+/// were held.
+fn run(code: &[Record], memory: &mut dyn Memory, depth: usize, from: State, limit: u32) -> (Ran, State, Held) {
+    let (mut state, mut held) = (from, Held::default());
     let end = loop {
         if state.position as usize == code.len() {
             break End::Done;
@@ -512,12 +545,12 @@ fn run(code: &[Record], memory: &mut dyn Memory, depth: usize, from: State, limi
             break End::Spent;
         }
         state.count += 1;
-        match step(code, memory, depth, state) {
+        match step(code, memory, depth, state, &mut held) {
             Ok(next) => state = next,
             Err(end) => break end,
         }
     };
-    (Ran { end, count: state.count, mark: state.mark as u8 }, state)
+    (Ran { end, count: state.count, mark: state.mark as u8 }, state, held)
 }
 
 /// 11: D or n above 64, or a memory that has not D + 1 + n cells.
@@ -610,6 +643,53 @@ fn agree(machine: &[Record], n: usize) -> Answer<()> {
     }
 }
 
+// ---- The runs, each with the sums that it held
+
+pub fn by_source(text: &[u8], store: &mut [i32], budget: u32) -> Answer<(Ran, Held)> {
+    let command = read_text(text)?;
+    if store.len() != 64 {
+        return Err(Refusal(8, 0));
+    }
+    let mut run = Source { store, count: 0, budget, height: 0, mark: 0, held: Held::default() };
+    let end = run.execute(&command).err().unwrap_or(End::Done);
+    Ok((Ran { end, count: run.count, mark: run.mark }, run.held))
+}
+
+pub fn by_assembly(code: &[u8], store: &mut [i32], stack: &mut [i32], budget: u32) -> Answer<(Ran, Held)> {
+    whole(code)?;
+    if store.len() != 64 {
+        return Err(Refusal(8, 0));
+    }
+    let records = records(code, 0x40, 0..=63)?;
+    let depth = stack.len();
+    if depth > 64 {
+        return Err(Refusal(11, 0));
+    }
+    let (ran, _, held) = run(&records, &mut AssemblyMemory { store, stack }, depth, FRESH, budget);
+    Ok((ran, held))
+}
+
+/// W7: goes on from a machine, the budget counting from there; or 9, 10, 11, 15.
+pub fn by_machine(
+    code: &[u8],
+    memory: &mut [i32],
+    depth: u64,
+    n: u64,
+    from: State,
+    budget: u32,
+) -> Answer<(Piece, Held)> {
+    whole(code)?;
+    let records = records(code, 0x50, 1..=n)?;
+    fits(depth, n, memory)?;
+    let depth = depth as usize;
+    let limit = from.count.checked_add(budget).ok_or(Refusal(15, 0))?;
+    if from.position as usize > records.len() || from.size > from.mark || from.mark as usize > depth {
+        return Err(Refusal(15, 0));
+    }
+    let (ran, state, held) = run(&records, &mut Cells { cells: memory, depth }, depth, from, limit);
+    Ok(((ran, (ran.end == End::Spent).then_some(state)), held))
+}
+
 // ---- The calls
 
 /// The simple interpreter.
@@ -640,26 +720,11 @@ impl Calls for Interpreter {
     }
 
     fn run_source(&self, text: &[u8], store: &mut [i32], budget: u32) -> Answer<Ran> {
-        let command = read_text(text)?;
-        if store.len() != 64 {
-            return Err(Refusal(8, 0));
-        }
-        let mut run = Source { store, count: 0, budget, height: 0, mark: 0 };
-        let end = run.execute(&command).err().unwrap_or(End::Done);
-        Ok(Ran { end, count: run.count, mark: run.mark })
+        by_source(text, store, budget).map(|(ran, _)| ran)
     }
 
     fn run_assembly(&self, code: &[u8], store: &mut [i32], stack: &mut [i32], budget: u32) -> Answer<Ran> {
-        whole(code)?;
-        if store.len() != 64 {
-            return Err(Refusal(8, 0));
-        }
-        let records = records(code, 0x40, 0..=63)?;
-        let depth = stack.len();
-        if depth > 64 {
-            return Err(Refusal(11, 0));
-        }
-        Ok(run(&records, &mut AssemblyMemory { store, stack }, depth, FRESH, budget).0)
+        by_assembly(code, store, stack, budget).map(|(ran, _)| ran)
     }
 
     fn load(&self, table: &[u8], store: &[i32], depth: u64, memory: &mut [i32]) -> Answer<usize> {
@@ -746,18 +811,8 @@ impl Calls for Interpreter {
         Ok(ran)
     }
 
-    /// W7: goes on from a machine, the budget counting from there; or 9, 10, 11, 15.
     fn go_on(&self, code: &[u8], memory: &mut [i32], depth: u64, n: u64, from: State, budget: u32) -> Answer<Piece> {
-        whole(code)?;
-        let records = records(code, 0x50, 1..=n)?;
-        fits(depth, n, memory)?;
-        let depth = depth as usize;
-        let limit = from.count.checked_add(budget).ok_or(Refusal(15, 0))?;
-        if from.position as usize > records.len() || from.size > from.mark || from.mark as usize > depth {
-            return Err(Refusal(15, 0));
-        }
-        let (ran, state) = run(&records, &mut Cells { cells: memory, depth }, depth, from, limit);
-        Ok((ran, (ran.end == End::Spent).then_some(state)))
+        by_machine(code, memory, depth, n, from, budget).map(|(piece, _)| piece)
     }
 }
 
@@ -776,7 +831,6 @@ pub fn printed(end: End) -> &'static str {
     match end {
         End::Done => "done",
         End::Spent => "spent",
-        End::OutOfRange => "range",
         other => panic!("a text's run ended {other:?}"),
     }
 }

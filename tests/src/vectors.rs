@@ -109,7 +109,6 @@ impl Call {
             end: match self.value.get("out").unwrap().get("end").unwrap().text() {
                 "done" => End::Done,
                 "spent" => End::Spent,
-                "range" => End::OutOfRange,
                 "short" => End::Short,
                 "full" => End::Full,
                 "astray" => End::Astray,

@@ -16,8 +16,8 @@ fn inspected(code: &[u8], depth: u64, cells: u64) -> Answer<usize> {
     both(&(depth, cells, code), |calls| calls.inspect(code, depth, cells))
 }
 
-/// What the inspection answers. Code that passes never ends short, full or astray, and its mark is at most the greatest
-/// height.
+/// What the inspection answers. Code that passes never ends short, full or astray: it is done or spent, and its mark is
+/// at most the greatest height.
 fn checked(foreign: &Foreign, random: &mut Random) -> Answer<usize> {
     let Foreign { code, depth, cells } = foreign;
     let records = inspected(code, *depth, *cells)?;
@@ -26,7 +26,7 @@ fn checked(foreign: &Foreign, random: &mut Random) -> Answer<usize> {
     for _ in 0..4 {
         let mut memory = random.cells(memory_cells(*depth, *cells));
         let ran = Libraries.run_machine(code, &mut memory, *depth, *cells, random.budget()).unwrap();
-        assert!(matches!(ran.end, End::Done | End::Spent | End::OutOfRange), "{ran:?}");
+        assert!(matches!(ran.end, End::Done | End::Spent), "{ran:?}");
         assert!(ran.mark as usize <= greatest, "{ran:?}, greatest height {greatest}");
     }
     Ok(records)

@@ -47,15 +47,16 @@ fn turn_by_turn() {
     assert!(marks(&text, 2..=30).iter().all(|&mark| mark == 2));
 }
 
-/// A push with D values on the stack, a sum out of range, a record with too few operands: none of them raises the mark.
+/// A push with D values on the stack, a record with too few operands, a sum that is held: none of them raises the mark.
 #[test]
-fn ends_raise_nothing() {
+fn ends_and_held_sums_raise_nothing() {
     let (loadi, add) = (|z: i32| record(0x40, z), record(0x42, 0));
     let cases = [
         (vec![], 0, Ran { end: End::Done, count: 0, mark: 0 }),
         (vec![loadi(1)], 0, Ran { end: End::Full, count: 1, mark: 0 }),
         (vec![loadi(1), loadi(2)], 1, Ran { end: End::Full, count: 2, mark: 1 }),
-        (vec![loadi(i32::MAX), loadi(1), add], 2, Ran { end: End::OutOfRange, count: 3, mark: 2 }),
+        (vec![loadi(i32::MAX), loadi(1), add], 2, Ran { end: End::Done, count: 3, mark: 2 }),
+        (vec![loadi(i32::MIN), loadi(-1), add, loadi(3)], 2, Ran { end: End::Done, count: 4, mark: 2 }),
         (vec![loadi(1), add], 2, Ran { end: End::Short, count: 2, mark: 1 }),
         (vec![loadi(1), loadi(2), add, loadi(3)], 2, Ran { end: End::Done, count: 4, mark: 2 }),
     ];

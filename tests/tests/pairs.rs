@@ -1,12 +1,13 @@
 //! W6, a table tested against its code: what our compiler pairs runs as its text does; foreign pairs that agree, that
 //! disagree and of any kind, beside the simple interpreter and the calls made one by one.
 
-use profile_tests::answers::{memory_cells, Answer, Calls, End, Ran, Refusal};
+use profile_tests::answers::{memory_cells, Answer, Calls, End, Piece, Ran, Refusal, FRESH};
 use profile_tests::both::{both, Compiled};
 use profile_tests::calls::Libraries;
 use profile_tests::foreign::{self, done_at_once, record, Foreign};
 use profile_tests::generator::{self, Random};
-use profile_tests::{model, seeds};
+use profile_tests::model::{self, Held, Interpreter};
+use profile_tests::seeds;
 
 const TEXTS: u64 = 4000;
 const PAIRS: u64 = 10_000;
@@ -84,23 +85,36 @@ impl Pair {
         }
         left
     }
+
+    /// The run of a pair that is not refused, with the sums that it holds.
+    fn held(&self, budget: u32) -> Answer<(Piece, Held)> {
+        let n = self.names() as u64;
+        let mut memory = vec![0; memory_cells(self.depth, n)];
+        Interpreter.load(&self.table, &self.store, self.depth, &mut memory)?;
+        model::by_machine(&self.code, &mut memory, self.depth, n, FRESH, budget)
+    }
 }
 
-/// How often each refusal and each end came up, and how often a run of that end left another store.
+/// How often each refusal and each end came up, and how often a run of that end, and one that held a sum at each limit,
+/// left another store.
 #[derive(Debug, Default)]
 struct Tally {
     refused: [u32; 15],
-    ended: [u32; 6],
-    changed: [u32; 6],
+    ended: [u32; 5],
+    changed: [u32; 5],
+    held: Held,
 }
 
 impl Tally {
-    fn add(&mut self, pair: &Pair, (answer, store): Left) {
+    fn add(&mut self, pair: &Pair, budget: u32, (answer, store): Left) {
         match answer {
             Err(Refusal(number, _)) => self.refused[number as usize] += 1,
             Ok(ran) => {
                 self.ended[ran.end as usize] += 1;
-                self.changed[ran.end as usize] += u32::from(store != pair.store);
+                if store != pair.store {
+                    self.changed[ran.end as usize] += 1;
+                    self.held.add_run(pair.held(budget));
+                }
             }
         }
     }
@@ -128,12 +142,12 @@ fn compiled_pairs() {
         for budget in budgets(text, &pair, random) {
             let got = pair.checked(budget);
             assert_eq!(got, by_rules(text, &pair.store, budget), "budget {budget}");
-            tally.add(&pair, got);
+            tally.add(&pair, budget, got);
         }
     });
-    let [done, spent, out_of_range, ..] = tally.changed;
+    let [done, spent, ..] = tally.changed;
     if seeds::all() {
-        assert!(done > 200 && spent > 200 && out_of_range > 200, "{tally:?}");
+        assert!(done > 200 && spent > 200 && tally.held.least() > 200, "{tally:?}");
     }
 }
 
@@ -142,11 +156,11 @@ fn compiled_pairs() {
 fn foreign_pairs() {
     let mut tally = Tally::default();
     seeds::for_each(PAIRS, |random| {
-        let pair = Pair::foreign(random);
-        tally.add(&pair, pair.checked(random.budget()));
+        let (pair, budget) = (Pair::foreign(random), random.budget());
+        tally.add(&pair, budget, pair.checked(budget));
     });
     if seeds::all() {
-        assert!(tally.changed.iter().all(|&times| times > 50), "{tally:?}");
+        assert!(tally.changed.iter().all(|&times| times > 50) && tally.held.least() > 50, "{tally:?}");
     }
     assert_eq!(tally.refused, [0; 15]);
 }
@@ -266,11 +280,13 @@ fn any_pairs() {
     seeds::for_each(PAIRS, |random| {
         let mut pair = Pair::any(random);
         pair.damage(random);
-        tally.add(&pair, pair.checked(random.budget()));
+        let budget = random.budget();
+        tally.add(&pair, budget, pair.checked(budget));
     });
     let refused = [9, 8, 12, 10, 14, 11].map(|number: usize| tally.refused[number]);
     if seeds::all() {
-        assert!(refused.iter().chain(&tally.ended).all(|&times| times > 50), "{tally:?}");
+        let often = refused.iter().chain(&tally.ended).all(|&times| times > 50);
+        assert!(often && tally.held.least() > 50, "{tally:?}");
     }
 }
 

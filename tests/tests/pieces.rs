@@ -6,7 +6,7 @@ use profile_tests::both::{both, Compiled};
 use profile_tests::calls::Libraries;
 use profile_tests::foreign::{self, record, Foreign};
 use profile_tests::generator::{self, Random};
-use profile_tests::model::Interpreter;
+use profile_tests::model::{self, Held, Interpreter};
 use profile_tests::seeds;
 
 const TEXTS: u64 = 4000;
@@ -86,6 +86,11 @@ impl Machine {
         }
     }
 
+    /// A run from a state, with the sums that it holds, on a copy of the memory.
+    fn held(&self, from: State, budget: u32) -> Answer<(Piece, Held)> {
+        model::by_machine(&self.code, &mut self.memory.clone(), self.depth, self.cells, from, budget)
+    }
+
     /// One to twenty budgets, zeros among them. Where the run ends, their total may be all that 32 bits hold.
     fn budgets(&self, random: &mut Random) -> Vec<u32> {
         let ends_at = self.ends_at(FRESH);
@@ -107,12 +112,13 @@ impl Machine {
 }
 
 /// How often lists came to each end after a pause, stopped before their last budget, and were left with values on the
-/// stack.
+/// stack; and how often one held a sum at each limit after a pause.
 #[derive(Debug, Default)]
 struct Tally {
-    ended: [u32; 6],
+    ended: [u32; 5],
     stopped: u32,
     inside: u32,
+    held: Held,
 }
 
 impl Tally {
@@ -125,17 +131,21 @@ impl Tally {
 
     fn shows_all(&self, ends: &[End]) -> bool {
         let ended = ends.iter().all(|&end| self.ended[end as usize] > 100);
-        ended && self.stopped > 100 && self.inside > 100
+        ended && self.stopped > 100 && self.inside > 100 && self.held.least() > 100
     }
 }
 
 /// The pieces and one run with their total leave the same answer, its state among it, and the same memory.
 fn pieces_are_one_run(machine: &Machine, budgets: &[u32], tally: &mut Tally) -> (Option<Piece>, Machine) {
-    let (mut cut, mut whole) = (machine.clone(), machine.clone());
+    let (mut first, mut cut, mut whole) = (machine.clone(), machine.clone(), machine.clone());
     let (got, run) = cut.pieces(None, budgets);
-    let want = whole.run(None, budgets.iter().sum());
+    let total = budgets.iter().sum();
+    let want = whole.run(None, total);
     assert_eq!((got, &cut), (want, &whole), "{budgets:?}, {machine:02x?}");
     tally.add(got, run, budgets.len());
+    if let Ok((_, Some(state))) = first.run(None, budgets[0]) {
+        tally.held.add_run(first.held(state, total - budgets[0]));
+    }
     (got.ok(), cut)
 }
 
@@ -156,7 +166,7 @@ fn compiled_machines() {
         assert_eq!((Ok(ran), store), (by_source, by_rules), "{budgets:?}");
     });
     if seeds::all() {
-        assert!(tally.shows_all(&[End::Done, End::Spent, End::OutOfRange]), "{tally:?}");
+        assert!(tally.shows_all(&[End::Done, End::Spent]), "{tally:?}");
     }
 }
 
@@ -171,20 +181,23 @@ fn foreign_machines() {
     });
     use End::*;
     if seeds::all() {
-        assert!(tally.shows_all(&[Done, Spent, OutOfRange, Short, Full, Astray]), "{tally:?}");
+        assert!(tally.shows_all(&[Done, Spent, Short, Full, Astray]), "{tally:?}");
     }
 }
 
-/// Machines of D 2 and n 2 that come to each end after some records, and one that comes to none.
+/// Machines of D 2 and n 2 that come to each end after some records, and one that comes to none; two that are done hold
+/// a sum, one at each limit.
 fn each_end() -> Vec<(Machine, Option<End>)> {
     let [load, one, add, store] = [record(0x51, 2), record(0x50, 1), record(0x52, 0), record(0x53, 1)];
+    let lowest = record(0x50, i32::MIN);
     let last = |records: &[[u8; 5]], end| {
         let code = [&[load, one, add, store, one, load], records].concat().concat();
         (Machine { code, memory: vec![7, 7, 7, 7, i32::MAX - 1], depth: 2, cells: 2 }, end)
     };
     vec![
         last(&[record(0x55, 0)], Some(End::Done)),
-        last(&[add, one, add], Some(End::OutOfRange)),
+        last(&[add, one, add, store], Some(End::Done)),
+        last(&[store, lowest, add, lowest, add, store], Some(End::Done)),
         last(&[store, store, store], Some(End::Short)),
         last(&[one], Some(End::Full)),
         last(&[record(0x55, i32::MAX)], Some(End::Astray)),
@@ -207,7 +220,7 @@ fn every_cut() {
             }
         }
     }
-    assert!(tally.ended.iter().all(|&times| times > 20), "{tally:?}");
+    assert!(tally.ended.iter().all(|&times| times > 20) && tally.held.least() > 20, "{tally:?}");
 }
 
 /// x0 := x1 + 5, record by record: what each pause hands out. The mark stays when the stack gets smaller.
@@ -291,7 +304,7 @@ impl Machine {
 /// From any state that is taken, a budget in two pieces is the budget in one. Each refusal comes up, and each end.
 #[test]
 fn any_states() {
-    let (mut refused, mut ended) = ([0; 16], [0; 6]);
+    let (mut refused, mut ended, mut held) = ([0; 16], [0; 5], Held::default());
     seeds::for_each(2 * CODES, |random| {
         let mut machine = Machine::any(random);
         if random.one_in(8) {
@@ -299,6 +312,7 @@ fn any_states() {
         }
         let (from, budget) = machine.any_state(random);
         let (mut cut, first) = (machine.clone(), (random.bits() % (u64::from(budget) + 1)) as u32);
+        held.add_run(machine.held(from, budget));
         let got = machine.run(Some(from), budget);
         match got {
             Err(Refusal(number, _)) => refused[number as usize] += 1,
@@ -311,7 +325,8 @@ fn any_states() {
     });
     let refused = [9, 10, 11, 15].map(|number: usize| refused[number]);
     if seeds::all() {
-        assert!(refused.iter().chain(&ended).all(|&times| times > 100), "{refused:?}, {ended:?}");
+        let often = refused.iter().chain(&ended).all(|&times| times > 100) && held.least() > 100;
+        assert!(often, "{refused:?}, {ended:?}, {held:?}");
     }
 }
 

@@ -2,8 +2,9 @@
 
 use std::path::Path;
 
+use profile_tests::model::{self, Held};
 use profile_tests::programs::{self, show, Output};
-use profile_tests::{model, seeds};
+use profile_tests::{pages, seeds};
 
 #[test]
 fn examples() {
@@ -17,12 +18,27 @@ fn examples() {
             count += 1;
         }
     }
-    assert!(count >= 15);
+    assert!(count >= 16);
 }
 
+/// examples/README.md has, whole, what is printed for a profile whose sums are held.
+#[test]
+fn the_quoted_example() {
+    let lines = pages::text("examples/bias.out").lines().map(|line| format!("    {line}\n")).collect::<String>();
+    assert!(pages::text("examples/README.md").contains(&format!("\n\n{lines}")), "{lines}");
+}
+
+/// The texts hold sums at both limits often enough (W8).
 #[test]
 fn random_texts() {
-    seeds::for_each_text(4000, |text, _| assert_eq!(show(text), model::show(text)));
+    let mut held = Held::default();
+    seeds::for_each_text(4000, |text, _| {
+        assert_eq!(show(text), model::show(text));
+        held.add_run(model::by_source(text, &mut [0; 64], 1_000_000));
+    });
+    if seeds::all() {
+        assert!(held.least() > 100, "{held:?}");
+    }
 }
 
 #[test]

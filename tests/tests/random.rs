@@ -1,12 +1,21 @@
 //! Random texts, codes and tables: the libraries and the simple interpreter answer alike, on every lent buffer.
 
-use profile_tests::answers::{memory_cells, Calls};
+use profile_tests::answers::{memory_cells, Calls, FRESH};
 use profile_tests::both::{alike, both, Compiled};
 use profile_tests::calls::Libraries;
+use profile_tests::foreign::{self, Foreign};
 use profile_tests::generator::Random;
-use profile_tests::{foreign, model, seeds};
+use profile_tests::model::{self, Held};
+use profile_tests::seeds;
 
 const SEEDS: u64 = 4000;
+
+/// Enough of these runs held a sum at each limit.
+fn enough(held: Held) {
+    if seeds::all() {
+        assert!(held.least() > 100, "{held:?}");
+    }
+}
 
 #[test]
 fn read() {
@@ -17,6 +26,7 @@ fn read() {
 
 #[test]
 fn run_source() {
+    let mut held = Held::default();
     seeds::for_each_text(SEEDS, |text, random| {
         let length = random.lent_length();
         let (start, budget) = (random.cells(length), random.budget());
@@ -24,7 +34,9 @@ fn run_source() {
             let mut store = start.clone();
             (calls.run_source(text, &mut store, budget), store)
         });
+        held.add_run(model::by_source(text, &mut start.clone(), budget));
     });
+    enough(held);
 }
 
 #[test]
@@ -81,32 +93,49 @@ fn machine_code(text: &[u8], random: &mut Random) -> Vec<u8> {
     }
 }
 
+/// Also code to which heights can be given, so that sums find their operands.
 #[test]
 fn foreign_machine_code() {
-    seeds::for_each_text(SEEDS, |text, random| {
-        let code = machine_code(text, random);
-        let (depth, n) = (random.below(5) as u64, random.below(6) as u64);
+    let mut held = Held::default();
+    seeds::for_each_text(2 * SEEDS, |text, random| {
+        let (code, depth, n) = if random.one_in(2) {
+            let Foreign { code, depth, cells } = Foreign::any(random);
+            (code, depth, cells)
+        } else {
+            (machine_code(text, random), random.below(5) as u64, random.below(6) as u64)
+        };
         let length = if random.one_in(20) { random.below(12) } else { memory_cells(depth, n) };
         let (start, budget) = (random.cells(length), random.budget());
         alike(&(&code, &start, depth, n, budget), |calls| {
             let mut memory = start.clone();
             (calls.start(&code, &mut memory, depth, n, budget), memory)
         });
+        held.add_run(model::by_machine(&code, &mut start.clone(), depth, n, FRESH, budget));
     });
+    enough(held);
 }
 
+/// The same in assembly.
 #[test]
 fn foreign_assembly() {
-    seeds::for_each_text(SEEDS, |_, random| {
-        let code = foreign::code(random, 0x40);
-        let (depth, cells) = (random.below(6), if random.one_in(30) { 63 } else { 64 });
+    let mut held = Held::default();
+    seeds::for_each_text(2 * SEEDS, |_, random| {
+        let (code, depth) = if random.one_in(2) {
+            let foreign = Foreign::any(random);
+            (foreign.assembly(), foreign.depth as usize)
+        } else {
+            (foreign::code(random, 0x40), random.below(6))
+        };
+        let cells = if random.one_in(30) { 63 } else { 64 };
         let (start, start_stack) = (random.cells(cells), random.cells(depth));
         let budget = random.budget();
         alike(&(&code, &start, &start_stack, budget), |calls| {
             let (mut store, mut stack) = (start.clone(), start_stack.clone());
             (calls.run_assembly(&code, &mut store, &mut stack, budget), store, stack)
         });
+        held.add_run(model::by_assembly(&code, &mut start.clone(), &mut start_stack.clone(), budget));
     });
+    enough(held);
 }
 
 #[test]

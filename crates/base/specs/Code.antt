@@ -6,17 +6,17 @@ use Rattle.base.specs.Answers.{Answer, gives, refused}
 use Rattle.base.specs.Ends as Ends
 use Rattle.base.specs.Ends.{Ran, ran}
 use Rattle.base.specs.declared.End.{End}
-use Rattle.base.specs.declared.End.the-variants.{Done, Spent, OutOfRange, Short, Full, Astray}
+use Rattle.base.specs.declared.End.the-variants.{Done, Spent, Short, Full, Astray}
 use Rattle.base.specs.declared.Run.{Run}
 use Rattle.base.specs.declared.Run.the-variants.{Refused as RefusedRun, Ended}
 use Rattle.base.specs.declared.Preview.{Preview}
 use Rattle.base.specs.declared.Count.{Count}
 use Rattle.base.specs.declared.Count.the-variants.{Refused as RefusedCount, Gives}
 
+-- An end. The code has no name for out of range, which no call gives (document 02, W8)
 abbrev pub end-of : End → Ends.End
 end-of Done = Ends.done
 end-of Spent = Ends.spent
-end-of OutOfRange = Ends.fault Ends.out-of-range
 end-of Short = Ends.fault Ends.short
 end-of Full = Ends.fault Ends.full
 end-of Astray = Ends.fault Ends.astray

@@ -1,7 +1,8 @@
 -- How runs end (document 01, "Source rules and ticks" and "Executors"), and the mark (document 02, W2).
 use Prim.Native.Nat.{ℕ, _-_}
 
--- The ends that a record brings
+-- The ends that a record brings. Out of range comes by the stopping rule for sums alone (word/specs/Sums), which no
+-- call names since W8
 pub data Fault : Type 0 where
   short full out-of-range astray : Fault
 

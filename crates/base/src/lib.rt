@@ -18,7 +18,6 @@ pub const LAST_VARIABLE: u8 = 63;
 pub enum End {
     Done,
     Spent,
-    OutOfRange,
     Short,
     Full,
     Astray,

@@ -6,7 +6,7 @@ use Rattle.base.specs.Acts.{then′, give}
 use Rattle.base.specs.Answers.{and-then, settle, previewed}
 use Rattle.base.specs.Rows.{call, answered}
 use Rattle.word.specs.Numbers.{number-of, number-at, bits-of, bytes-of}
-use Rattle.word.specs.Sums.{limited, stopping}
+use Rattle.word.specs.Sums.{clamped, holding}
 use Rattle.word.specs.Targets.{within, target}
 use Rattle.text.specs.Reading.{expression-byte, condition-byte, command-byte, decline, there, due, pass, operand}
 use Rattle.text.specs.Reading.{number-due, number, expression-of, expression, condition-of, condition, command-of}
@@ -42,7 +42,7 @@ memory-of-I = refl
 pub profiles : Profiles
 unfolding cases measured by-rules by-machine zeros
     A·text B·text C·text D·text E·text F·text G·text H·text I·text J·text K·text
-    then′ give and-then settle number-of number-at bits-of bytes-of limited stopping within target
+    then′ give and-then settle number-of number-at bits-of bytes-of clamped holding within target
     expression-byte condition-byte command-byte decline there due pass operand number-due number
     expression-of expression condition-of condition command-of command all-read read-text
     expression-records condition-records records expression-depth condition-depth depth
@@ -87,7 +87,7 @@ read-back-declines = record {
 }
 
 pub previews-of-B : PreviewsOfB
-unfolding and-then settle previewed then′ give number-of number-at limited stopping within target
+unfolding and-then settle previewed then′ give number-of number-at clamped holding within target
     operation name-of option-map is-zero record-of in-front records-from
     taken pop push held keep in-range next land jump act after run-at run
     machine-tests tell state-tests go-on-by run-machine ran-of
@@ -95,7 +95,7 @@ unfolding and-then settle previewed then′ give number-of number-at limited sto
 previews-of-B = refl
 
 pub preview-declines : PreviewDeclines
-unfolding zeros and-then settle previewed then′ give number-of number-at limited stopping within target
+unfolding zeros and-then settle previewed then′ give number-of number-at clamped holding within target
     operation name-of option-map is-zero record-of in-front records-from
     taken pop push held keep in-range next land jump act after run-at run
     machine-tests tell state-tests go-on-by run-machine ran-of
@@ -119,7 +119,7 @@ preview-declines = record {
 }
 
 pub paired-ends : PairedEnds
-unfolding and-then settle then′ give number-of number-at limited stopping within target
+unfolding and-then settle then′ give number-of number-at clamped holding within target
     operation name-of option-map is-zero record-of in-front records-from member once mentions in-order
     taken pop push held keep in-range next land jump act after run-at run
     machine-tests tell state-tests go-on-by run-machine ran-of
@@ -130,12 +130,12 @@ paired-ends = record {
   ends-spent = refl;
   ends-short = refl;
   ends-full = refl;
-  ends-out-of-range = refl;
+  ends-held = refl;
   ends-astray = refl;
 }
 
 pub paired-of-B : PairedOfB
-unfolding and-then settle then′ give number-of number-at limited stopping within target
+unfolding and-then settle then′ give number-of number-at clamped holding within target
     operation name-of option-map is-zero record-of in-front records-from member once mentions in-order
     taken pop push held keep in-range next land jump act after run-at run
     machine-tests tell state-tests go-on-by run-machine ran-of
@@ -144,7 +144,7 @@ unfolding and-then settle then′ give number-of number-at limited stopping with
 paired-of-B = record { under-3 = refl; under-4 = refl }
 
 pub paired-declines : PairedDeclines
-unfolding and-then settle then′ give number-of number-at limited stopping within target
+unfolding and-then settle then′ give number-of number-at clamped holding within target
     operation name-of option-map is-zero record-of in-front records-from member once mentions in-order
     taken pop push held keep in-range next land jump act after run-at run
     machine-tests tell state-tests go-on-by run-machine ran-of

@@ -39,6 +39,7 @@ use Rattle.fitting.specs.Simulation.{seen}
 use Rattle.fitting.specs.Demand3.{Ready, MachineEnds, RulesEnd, Alike, Demand3, Fitted, AssemblyFitted}
 use Rattle.fitting.specs.Demand3.{RowsFitted, OneMark}
 use Rattle.fitting.proofs.Memories.{assembled, translated}
+use Rattle.fitting.proofs.NeverOut.{rules-never-out}
 use Rattle.fitting.proofs.Counts.{ticked}
 use Rattle.fitting.proofs.Rows.{same-length, in-a-row, whole-row}
 
@@ -97,28 +98,25 @@ alike text lent memory store budget x u m r e k μ t = (to, back)
         let second : u ≡ t = ap (λ (x : Answer Ran × Store). x .1) same in
         m ∙ (λ i. gives (first i, second i))
 
--- the three ends of a run of the source rules, by its outcome
+-- the two ends of a run of the source rules, by its outcome
 ends : (text : List ℕ) (lent : Compiled) (memory : List ℤ) (store : Store) (budget : ℕ) (x : Outcomes (Unit {0}))
     → let r = result-of x in four-calls text lent memory store budget ≡ gives (report budget r, r .leaves)
     → run-source text store budget ≡ (gives (report budget r), r .leaves)
-    → (r .end ≡ End.spent → r .left ≡ 0)
+    → (r .end ≡ fault Fault.out-of-range → ⊥) → (r .end ≡ End.spent → r .left ≡ 0)
     → ((k : ℕ) × (μ : ℕ) × (t : Store) × (k ≤ budget) × MachineEnds text lent memory store budget End.done k μ t)
-    ⊎ ((k : ℕ) × (μ : ℕ) × (t : Store) × (k ≤ budget)
-    × MachineEnds text lent memory store budget (fault Fault.out-of-range) k μ t)
     ⊎ ((μ : ℕ) × (t : Store) × MachineEnds text lent memory store budget End.spent budget μ t
     × RulesEnd text store budget End.spent budget μ t)
 unfolding result-of end-of
-ends text lent memory store budget (ok a s) m r z = inl (budget - s .left, s .mark, s .store, omega arith, m)
-ends text lent memory store budget (ended (Early.out-of-range, s)) m r z =
-    inr (inl (budget - s .left, s .mark, s .store, omega arith, m))
-ends text lent memory store budget (ended (Early.spent, s)) m r z =
+ends text lent memory store budget (ok a s) m r x z = inl (budget - s .left, s .mark, s .store, omega arith, m)
+ends text lent memory store budget (ended (Early.out-of-range, s)) m r x z = absurd (x refl)
+ends text lent memory store budget (ended (Early.spent, s)) m r x z =
     let whole : budget - s .left ≡ budget = omega (arith, z refl) in
-    inr (inr (
+    inr (
       s .mark,
       s .store,
       m ∙ ap (λ k. gives (ran End.spent k (s .mark), s .store)) whole,
       r ∙ ap (λ k. (gives (ran End.spent k (s .mark)), s .store)) whole,
-    ))
+    )
 
 pub demand3 : Demand3
 demand3 text bytes c read lent memory store ready budget =
@@ -128,10 +126,8 @@ demand3 text bytes c read lent memory store ready budget =
     let D = depth c in
     record {
       done-alike = alike text lent memory store budget (report budget r) (r .leaves) m s End.done;
-      range-alike =
-          alike text lent memory store budget (report budget r) (r .leaves) m s (fault Fault.out-of-range);
-      one-of-three = ends text lent memory store budget (exec sums c (start budget store)) m s
-          (ticked c budget store .spent-all);
+      done-or-spent = ends text lent memory store budget (exec sums c (start budget store)) m s
+          (rules-never-out c budget store) (ticked c budget store .spent-all);
       stack = λ steps.
           let x = fresh-inside sums D (machine-cells D) (to-m-prog (ccomp c)) steps
           (loaded (table (ccomp c)) D (cells c) store) in

@@ -2,6 +2,7 @@ pub mod Cases
 pub mod Simulation
 pub mod Loading
 pub mod Memories
+pub mod NeverOut
 pub mod Counts
 pub mod Calls
 pub mod Rows

@@ -6,7 +6,7 @@ use mathlib.Core.List.{List}
 use lib.IntN.{pos}
 use lib.ListN.{length, getD, length-set}
 use lib.Seq.{getD-set-same, getD-set-other}
-use Rattle.word.specs.Sums.{SumRule}
+use Rattle.word.specs.Sums.{SumRule, stopping}
 use Rattle.text.specs.Sizes.{depth, cells}
 use Rattle.source.specs.Rules.{Store, run-rules}
 use Rattle.record.specs.Records.{AssemblyCode, address}
@@ -21,7 +21,7 @@ use Rattle.compile.proofs.Entries.{Distinct, table-small, table-distinct}
 use Rattle.compile.proofs.Naming.{placed}
 use Rattle.compile.proofs.Tables.{named-variables}
 use Rattle.fitting.specs.Loading.{loaded, read-back}
-use Rattle.fitting.specs.Simulation.{seen, Laws, Assembled, Translated}
+use Rattle.fitting.specs.Simulation.{seen, Laws, Assembled, Translated, TranslatedStopping}
 use Rattle.fitting.proofs.Loading.{addressed, cells-laws, length-loaded, back-loaded}
 use Rattle.fitting.proofs.Simulation.{simulated}
 
@@ -73,3 +73,6 @@ translated sum c h s e budget =
 
     small : (v : ℕ) → getD t v 0 ≤ n
     small v = omega (arith, table-small P v, named-variables c h .in-records)
+
+pub translated-stopping : TranslatedStopping
+translated-stopping = translated stopping

@@ -12,9 +12,7 @@ use lib.ListN.{length, length-append, getElem?}
 use lib.Signed.{ltZ}
 use Rattle.base.specs.Acts.{Outcome, ok, ended, then′, _>>=_, _>>_, give, if_then_else_}
 use Rattle.base.specs.Ends.{Fault, End, fault, Result, result}
-use Rattle.word.specs.Sums.{SumRule}
-use Rattle.word.specs.declared.Sum.{Sum}
-use Rattle.word.specs.declared.Sum.the-variants.{Fits, Out}
+use Rattle.word.specs.Sums.{Sum, fits, out, SumRule}
 use Rattle.text.specs.Sizes.{expression-depth, condition-depth, depth}
 use Rattle.text.specs.Syntax.{Expression, Constant, Variable, Plus, Condition, Bc, Not, And, Less, Command, SKIP}
 use Rattle.text.specs.Syntax.{_:=_, _⨾_, IF_THEN_ELSE_, WHILE_DO_}
@@ -147,10 +145,10 @@ module _ {M : Type 0} (sum : SumRule) (D : ℕ) (o : Memory M VariableNumber) (P
       (at p (suc (suc k)) m)
       ≡ onto (source-in-range r (here n′ (suc k) μ m)) K
   unfolding in-range then′ source-in-range onto after end-of
-  sum-sim (Fits z) p q k μ e d b m n n′ l G K h =
+  sum-sim (fits z) p q k μ e d b m n n′ l G K h =
       let same : max μ (suc k) ≡ μ = omega arith in
       push-sim z p q k (suc (suc k)) μ e d m n n′ l G K h ∙ ap (λ μ. K z (here n′ (suc k) μ m)) same
-  sum-sim Out p q k μ e d b m n n′ l G K h = refl
+  sum-sim out p q k μ e d b m n n′ l G K h = refl
 
   -- two expressions, then the records t with both values on top
   sim-two : {A : Type 0} (a b : Expression) → SimE a → SimE b → (p q k μ : ℕ) (t : AssemblyCode)

@@ -6,7 +6,7 @@ use mathlib.Core.List.{List, [], _∷_, _++_, map}
 use lib.IntN.{ℤ, pos, negsuc}
 use lib.ListN.{getD, replicate, take}
 use Rattle.base.specs.Answers.{Answer, gives, refused, and-then}
-use Rattle.base.specs.Ends.{End, done, spent, fault, short, full, out-of-range, astray, Ran, ran}
+use Rattle.base.specs.Ends.{End, done, spent, fault, short, full, astray, Ran, ran}
 use Rattle.text.specs.Syntax.{Command}
 use Rattle.text.specs.Reading.{read-text}
 use Rattle.text.specs.Sizes.{records, depth, cells}
@@ -105,7 +105,7 @@ cases =
     ∷ case D·text 1000000 D·records 1 1 (1 ∷ 0 ∷ 0 ∷ []) done 1 0 (pos 0)
     ∷ case E·text 1000000 E·records 1 1 (1 ∷ 0 ∷ 0 ∷ []) done 3 1 (pos 1)
     ∷ case F·text 1000000 F·records 2 0 (0 ∷ 0 ∷ 0 ∷ []) done 1 0 (pos 0)
-    ∷ case G·text 1000000 G·records 2 0 (0 ∷ 0 ∷ 0 ∷ []) (fault out-of-range) 3 2 (pos 0)
+    ∷ case G·text 1000000 G·records 2 0 (0 ∷ 0 ∷ 0 ∷ []) done 5 2 (pos 0)
     ∷ case H·text 1000000 H·records 2 1 (1 ∷ 0 ∷ 0 ∷ []) done 4 2 (negsuc 0)
     ∷ case I·text 1000000 I·records 1 3 (3 ∷ 2 ∷ 1 ∷ []) done 4 1 (pos 0)
     ∷ case J·text 0 J·records 0 0 (0 ∷ 0 ∷ 0 ∷ []) spent 0 0 (pos 0)
@@ -252,9 +252,9 @@ pub record PairedEnds : Type 0 where
   pub ends-short : after-nine (five 0x52 0) 9 ≡ nine-left (ran (fault short) 3 1)
   -- three times MLOADI 0
   pub ends-full : after-nine (five 0x50 0 ++ (five 0x50 0 ++ five 0x50 0)) 9 ≡ nine-left (ran (fault full) 5 2)
-  -- 2147483647 + 1
-  pub ends-out-of-range : after-nine (0x50 ∷ 0xff ∷ 0xff ∷ 0xff ∷ 0x7f ∷ five 0x50 1 ++ five 0x52 0) 9
-      ≡ nine-left (ran (fault out-of-range) 5 2)
+  -- 2147483647 + 1, which holds (document 02, W8) and stays on the stack
+  pub ends-held : after-nine (0x50 ∷ 0xff ∷ 0xff ∷ 0xff ∷ 0x7f ∷ five 0x50 1 ++ five 0x52 0) 9
+      ≡ nine-left (ran done 5 2)
   -- MJMP 1
   pub ends-astray : after-nine (five 0x54 1) 9 ≡ nine-left (ran (fault astray) 3 1)
 

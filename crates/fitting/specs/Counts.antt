@@ -18,6 +18,6 @@ pub record Ticks (sum : SumRule) (c : Command) (n : ℕ) (s : Store) : Type 0 wh
   pub fewer : (run-rules sum c n s .end ≡ End.spent → ⊥) → (k : ℕ) → k + run-rules sum c n s .left ≡ n
       → (j : ℕ) → j < k → run-rules sum c j s .end ≡ End.spent
 
--- So it is by document 01's rule for sums, which all calls name.
+-- So it is by the rule for sums that all calls name.
 abbrev pub Ticked : Type 0
 Ticked = (c : Command) (n : ℕ) (s : Store) → Ticks sums c n s

@@ -1,7 +1,8 @@
 -- Demand 3. For every accepted text, every starting store and every budget, the four calls in a row give the end, the
 -- count, the mark and the store that the source rules give under that budget; none of the four declines; the end is
--- done, spent or out of range, never short, full or astray; and neither the stack nor the mark passes D. The proof of
--- the same spelling stands in proofs/.
+-- done or spent, never short, full or astray; and neither the stack nor the mark passes D. The source rules are read as
+-- document 02's W8 has them, "Compiled profiles are judged against the rules so read"; under document 01's stopping
+-- rule it follows in a line (Simulation: TranslatedStopping). The proof of the same spelling stands in proofs/.
 use mathlib.Core.Path.{_≡_}
 use mathlib.Core.Logic.{_⊎_, _↔_}
 use Prim.Native.Nat.{ℕ, _+_, _*_, _≤_}
@@ -9,7 +10,7 @@ use mathlib.Core.List.{List}
 use lib.IntN.{ℤ}
 use lib.ListN.{length}
 use Rattle.base.specs.Answers.{gives}
-use Rattle.base.specs.Ends.{Fault, End, fault, Ran, ran}
+use Rattle.base.specs.Ends.{End, Ran, ran}
 use Rattle.text.specs.Syntax.{Command}
 use Rattle.text.specs.Reading.{read-text}
 use Rattle.text.specs.Encoding.{Bytes}
@@ -47,20 +48,14 @@ pub record Alike (text : List ℕ) (c : Command) (lent : Compiled) (memory : Lis
   -- are done at k ticks with that store"
   pub done-alike : (k mark : ℕ) (t : Store)
       → MachineEnds text lent memory store budget End.done k mark t ↔ RulesEnd text store budget End.done k mark t
-  -- "It stops on a sum out of range at k with a store exactly when those rules do, at that k with that store"
-  pub range-alike : (k mark : ℕ) (t : Store)
-      → MachineEnds text lent memory store budget (fault Fault.out-of-range) k mark t
-      ↔ RulesEnd text store budget (fault Fault.out-of-range) k mark t
   -- "k at most the budget"; "otherwise both are spent, at exactly the budget, with the same store"
-  pub one-of-three :
+  pub done-or-spent :
       ((k : ℕ) × (mark : ℕ) × (t : Store) × (k ≤ budget)
       × MachineEnds text lent memory store budget End.done k mark t)
-      ⊎ ((k : ℕ) × (mark : ℕ) × (t : Store) × (k ≤ budget)
-      × MachineEnds text lent memory store budget (fault Fault.out-of-range) k mark t)
       ⊎ ((mark : ℕ) × (t : Store) × MachineEnds text lent memory store budget End.spent budget mark t
       × RulesEnd text store budget End.spent budget mark t)
   -- "its stack never passes the depth D worked out from the text": after any number of steps. Any code stays at D or
-  -- below, since a push at D would end full (machine/specs/Machine, push); what this code adds is `one-of-three`: no
+  -- below, since a push at D would end full (machine/specs/Machine, push); what this code adds is `done-or-spent`: no
   -- run of it ends full, so no push at D is ever tried
   pub stack : (steps : ℕ)
       → machine-run (to-m-prog (ccomp c)) (loaded (table (ccomp c)) (depth c) (cells c) store) (depth c) steps

@@ -3,6 +3,7 @@ pub mod Calls
 pub mod Rows
 pub mod Paired
 pub mod Pieces
+pub mod NeverOut
 pub mod Simulation
 pub mod Demand3
 pub mod Previews

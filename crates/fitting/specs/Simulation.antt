@@ -7,7 +7,7 @@ use mathlib.Core.Option.{some}
 use lib.IntN.{ℤ, pos}
 use lib.ListN.{length, getElem?, getD, set}
 use Rattle.base.specs.Ends.{Result, result}
-use Rattle.word.specs.Sums.{SumRule}
+use Rattle.word.specs.Sums.{SumRule, stopping}
 use Rattle.text.specs.Syntax.{Command}
 use Rattle.text.specs.Encoding.{Valid}
 use Rattle.text.specs.Sizes.{depth, cells}
@@ -65,3 +65,7 @@ on-machine sum c budget s =
 abbrev pub Translated : SumRule → Type 0
 Translated sum = (c : Command) → Valid c → (s : Store) → length s ≡ 64 → (budget : ℕ)
     → on-machine sum c budget s ≡ run-rules sum c budget s
+
+-- So it is by document 01's stopping rule, which no call names any more (document 02, W9, speaks of runs by it).
+abbrev pub TranslatedStopping : Type 0
+TranslatedStopping = Translated stopping

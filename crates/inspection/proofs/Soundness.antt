@@ -13,10 +13,8 @@ use lib.ListN.{length, getElem?}
 use lib.Signed.{ltZ}
 use Rattle.base.specs.Acts.{Outcome, ok, ended, then′}
 use Rattle.base.specs.Ends.{Fault, short, full, out-of-range, astray, End, done, spent, fault}
-use Rattle.word.specs.Sums.{SumRule}
+use Rattle.word.specs.Sums.{Sum, fits, out, SumRule}
 use Rattle.word.specs.Targets.{target}
-use Rattle.word.specs.declared.Sum.{Sum}
-use Rattle.word.specs.declared.Sum.the-variants.{Fits, Out}
 use Rattle.word.specs.declared.Target.{Target}
 use Rattle.word.specs.declared.Target.the-variants.{To, Astray}
 use Rattle.record.specs.Records.{Record, LOADI, LOAD, ADD, STORE, JMP, JMPLESS, JMPGE}
@@ -44,9 +42,9 @@ module _ {M Name : Type 0} (sum : ℤ → ℤ → Sum) (D : ℕ) (o : Memory M N
   ADD-goes : (p k : ℕ) (m : M) → 2 ≤ k → k ≤ D → (x : Sum) → sum (o .peek m (k - 2)) (o .peek m (k - 1)) ≡ x
       → Comes ADD p k (act sum D o last ADD (at p k m))
   unfolding effect leads
-  ADD-goes p k m h d (Fits z) e =
+  ADD-goes p k m h d (fits z) e =
       comes ADD p k (add-fits sum D o last z p k m h d e) (true, ap To (omega arith), omega arith)
-  ADD-goes p k m h d Out e = comes ADD p k (add-out sum D o last p k m h d e) tt
+  ADD-goes p k m h d out e = comes ADD p k (add-out sum D o last p k m h d e) tt
 
   -- a jump to a target, by a record that leaves k′ values
   jump-goes : (r : Record Name) (i : ℤ) (p k k′ : ℕ) (m : M) (t : Target) → target p i last ≡ t

@@ -8,8 +8,7 @@ use lib.ListN.{length, take}
 use Rattle.base.specs.Acts.{Outcome, ok, ended}
 use Rattle.base.specs.Answers.{Answer, gives}
 use Rattle.base.specs.Ends.{Fault, short, full, out-of-range, astray, End, done, spent, fault, Ran}
-use Rattle.word.specs.Sums.{SumRule}
-use Rattle.word.specs.declared.Sum.{Sum}
+use Rattle.word.specs.Sums.{Sum, SumRule}
 use Rattle.word.specs.declared.Target.the-variants.{To, Astray}
 use Rattle.text.specs.Syntax.{Command}
 use Rattle.text.specs.Encoding.{Bytes}

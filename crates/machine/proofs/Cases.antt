@@ -1,10 +1,10 @@
 -- Small codes come to their ends, in one run and in pieces, and the calls decline, by computation (Cases: EndsCome,
--- AssemblyDeclines, MachineDeclines, Pauses, StateDeclines).
+-- Holds, AssemblyDeclines, MachineDeclines, Pauses, StateDeclines).
 use mathlib.Core.Path.{refl}
 use Rattle.base.specs.Acts.{then′}
 use Rattle.base.specs.Answers.{and-then, settle}
 use Rattle.word.specs.Numbers.{number-of, number-at}
-use Rattle.word.specs.Sums.{limited, stopping}
+use Rattle.word.specs.Sums.{limited, stopping, clamped, holding}
 use Rattle.word.specs.Targets.{within, target}
 use Rattle.record.specs.Bytes.{operation, name-of, option-map, is-zero, record-of, in-front, records-from}
 use Rattle.machine.specs.Machine.{taken, pop, push, held, keep, in-range, next, land, jump, act, after, run-at}
@@ -13,12 +13,25 @@ use Rattle.machine.specs.Calls.{assembly-tests, run-assembly, machine-te
 use Rattle.machine.specs.Calls.{run-machine}
 use Rattle.machine.specs.Calls.{ran-of}
 use Rattle.machine.specs.Pieces.{after-piece, in-pieces}
-use Rattle.machine.specs.Cases.{rows, EndsCome, AssemblyDeclines, MachineDeclines, Pauses, StateDeclines}
+use Rattle.machine.specs.Cases.{rows, EndsCome, Holds, AssemblyDeclines, MachineDeclines, Pauses}
+use Rattle.machine.specs.Cases.{StateDeclines}
 
 pub ends-come : EndsCome
-unfolding rows then′ limited stopping within target
+unfolding rows then′ clamped holding within target
     taken pop push held keep in-range next land jump act after run-at run
 ends-come = (refl, refl)
+
+pub holds : Holds
+unfolding then′ limited stopping clamped holding
+    taken pop push in-range next act after run-at run
+holds = record {
+  greatest = refl;
+  greatest-machine = refl;
+  least = refl;
+  least-machine = refl;
+  stopped = refl;
+  two-ticks = refl;
+}
 
 pub assembly-declines : AssemblyDeclines
 unfolding and-then settle number-of number-at
@@ -59,7 +72,7 @@ machine-declines = record {
 }
 
 pub pauses : Pauses
-unfolding then′ and-then settle number-of number-at limited stopping within target
+unfolding then′ and-then settle number-of number-at clamped holding within target
     operation name-of option-map is-zero record-of in-front records-from
     taken pop push held keep in-range next land jump act after run-at run
     machine-tests tell state-tests go-on-by run-machine after-piece in-pieces

@@ -8,8 +8,8 @@ use lib.Dec.{T, ltb, leb, lt→ltb, le→leb}
 use lib.Arith.{le→nltb}
 use lib.Signed.{ltZ}
 use Rattle.base.specs.Acts.{ok, ended, then′, if_then_else_}
+use Rattle.word.specs.Sums.{Sum}
 use Rattle.word.specs.Targets.{within, target}
-use Rattle.word.specs.declared.Sum.{Sum}
 use Rattle.word.specs.declared.Target.the-variants.{To, Astray}
 use Rattle.record.specs.Records.{JMPLESS, JMPGE}
 use Rattle.base.specs.Ends.{Fault}

@@ -12,10 +12,8 @@ use lib.Dec.{T, ltb, leb, leb→le}
 use lib.ListN.{length, getElem?}
 use lib.Signed.{ltZ}
 use Rattle.base.specs.Acts.{Outcome, ok, ended, Act, then′, if_then_else_}
-use Rattle.word.specs.Sums.{SumRule}
+use Rattle.word.specs.Sums.{Sum, fits, out, SumRule}
 use Rattle.word.specs.Targets.{within, target}
-use Rattle.word.specs.declared.Sum.{Sum}
-use Rattle.word.specs.declared.Sum.the-variants.{Fits, Out}
 use Rattle.word.specs.declared.Target.{Target}
 use Rattle.word.specs.declared.Target.the-variants.{To, Astray}
 use Rattle.record.specs.Records.{Record, LOADI, LOAD, ADD, STORE, JMP, JMPLESS, JMPGE}
@@ -93,8 +91,8 @@ module _ {M Name : Type 0} (sum : ℤ → ℤ → Sum) (D : ℕ) (o : Memory M N
       → Goes (then′ (in-range sum D o last r (at p k m))
       (λ z s. then′ (push sum D o last z s) (λ _. next sum D o last))) (λ _. Within)
   unfolding in-range then′
-  sum-goes (Fits z) p k m l q = push-goes z p k m l q
-  sum-goes Out p k m l q = tt
+  sum-goes (fits z) p k m l q = push-goes z p k m l q
+  sum-goes out p k m l q = tt
 
   land-goes : (t : Target) (p k : ℕ) (m : M) → ((q : ℕ) → t ≡ To q → q ≤ last) → k ≤ D → Q m
       → Goes (land sum D o last t (at p k m)) (λ _. Within)

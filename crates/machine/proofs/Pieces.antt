@@ -191,7 +191,7 @@ module _ (a b : ℕ) (code : List ℕ) (m : List ℤ) (D n : ℕ) (s : State) (k
         (sym (state-runs code m D n s a (state-passes code m D n s a f)))
         ∙ by-end (r .end) (r .left) (r .mark) (r .leaves) (spent-all sums D (machine-cells D) P a (s .mark) here)
         (inside sums D (machine-cells D) P a (s .mark) here in-bounds) (length-kept P m D s a in-bounds)
-        ∙ ap told-of (sym (cut sums D (machine-cells D) P steady-sums a b (s .mark) here))
+        ∙ ap told-of (sym (cut sums D (machine-cells D) P (steady-sums .holds) a b (s .mark) here))
         ∙ state-runs code m D n s (a + b) (state-passes code m D n s (a + b) (record {
           records = f .records;
           placed = f .placed;

@@ -12,10 +12,8 @@ use lib.Arith.{le→nltb}
 use lib.ListN.{length}
 use lib.Signed.{ltZ}
 use Rattle.base.specs.Acts.{Outcome, ok, ended, then′, if_then_else_}
-use Rattle.word.specs.Sums.{SumRule}
+use Rattle.word.specs.Sums.{Sum, fits, out, SumRule}
 use Rattle.word.specs.Targets.{target}
-use Rattle.word.specs.declared.Sum.{Sum}
-use Rattle.word.specs.declared.Sum.the-variants.{Fits, Out}
 use Rattle.word.specs.declared.Target.the-variants.{To, Astray}
 use Rattle.record.specs.Records.{Record, ADD, STORE, JMPLESS, JMPGE}
 use Rattle.base.specs.Ends.{Fault, End, fault, result}
@@ -64,21 +62,21 @@ module _ {M Name : Type 0} (sum : ℤ → ℤ → Sum) (D : ℕ) (o : Memory M N
   second : (k : ℕ) (m : M) → 2 ≤ k → o .peek m (suc (k - 2)) ≡ o .peek m (k - 1)
   second k m h = ap (o .peek m) (omega arith)
 
-  pub add-fits : (z : ℤ) (p k : ℕ) (m : M) → 2 ≤ k → k ≤ D → sum (o .peek m (k - 2)) (o .peek m (k - 1)) ≡ Fits z
+  pub add-fits : (z : ℤ) (p k : ℕ) (m : M) → 2 ≤ k → k ≤ D → sum (o .peek m (k - 2)) (o .peek m (k - 1)) ≡ fits z
       → does ADD p k m ≡ ok tt (at (p + 1) (k - 1) (o .poke m (k - 2) z))
   unfolding in-range then′
   add-fits z p k m h d e =
       two (λ k. does ADD p k m) k h
-      ∙ add-sum (Fits z) p (k - 2) m (omega arith) (ap (sum (o .peek m (k - 2))) (second k m h) ∙ e)
+      ∙ add-sum (fits z) p (k - 2) m (omega arith) (ap (sum (o .peek m (k - 2))) (second k m h) ∙ e)
       ∙ push-on z p (k - 2) m (omega arith)
       ∙ ap (λ k′. ok tt (at (p + 1) k′ (o .poke m (k - 2) z))) (omega arith)
 
-  pub add-out : (p k : ℕ) (m : M) → 2 ≤ k → k ≤ D → sum (o .peek m (k - 2)) (o .peek m (k - 1)) ≡ Out
+  pub add-out : (p k : ℕ) (m : M) → 2 ≤ k → k ≤ D → sum (o .peek m (k - 2)) (o .peek m (k - 1)) ≡ out
       → does ADD p k m ≡ ended Fault.out-of-range
   unfolding in-range then′
   add-out p k m h d e =
       two (λ k. does ADD p k m) k h
-      ∙ add-sum Out p (k - 2) m (omega arith) (ap (sum (o .peek m (k - 2))) (second k m h) ∙ e)
+      ∙ add-sum out p (k - 2) m (omega arith) (ap (sum (o .peek m (k - 2))) (second k m h) ∙ e)
 
   -- ---- STORE
 

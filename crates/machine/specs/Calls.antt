@@ -11,16 +11,16 @@ use lib.IntN.{ℤ}
 use lib.ListN.{length}
 use Rattle.base.specs.Answers.{Answer, gives, unless_refuse_at_else_, and-then, settle}
 use Rattle.base.specs.Ends.{End, fault, Result, Ran, ran, report}
-use Rattle.word.specs.Sums.{SumRule, stopping}
+use Rattle.word.specs.Sums.{SumRule, holding}
 use Rattle.record.specs.Records.{AssemblyCode, MachineCode}
 use Rattle.record.specs.Bytes.{assembly-kind, machine-kind, whole-records, records-of}
 use Rattle.machine.specs.Machine.{Machine, at as machine-at, fresh, run}
 use Rattle.machine.specs.Memories.{Assembly, assembly, machine-cells}
 use Rattle.machine.specs.declared.State.{State}
 
--- The rule for sums of all calls that run records
+-- The rule for sums of all calls that run records (document 02, W8)
 abbrev pub sums : SumRule
-sums = stopping
+sums = holding
 
 -- ---- run_assembly
 

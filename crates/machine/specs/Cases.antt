@@ -1,23 +1,34 @@
 -- Small codes that come to each end, on both memories (document 01, "Executors"). They name no variable and no address,
--- so the same rows serve assembly and machine code. Then where the calls decline ("When a call declines"), and runs in
--- pieces (document 02, W7).
+-- so the same rows serve assembly and machine code. Then sums past a limit (document 02, W8), where the calls decline
+-- (document 01, "When a call declines"), and runs in pieces (W7).
 use mathlib.Core.Path.{_≡_}
 use Prim.Native.Nat.{ℕ, _+_, _-_}
 use mathlib.Core.List.{List, [], _∷_, _++_, map}
 use lib.IntN.{ℤ, pos, negsuc}
 use lib.ListN.{replicate}
 use Rattle.base.specs.Answers.{Answer, gives, refused}
-use Rattle.base.specs.Ends.{Fault, short, full, out-of-range, astray, End, done, spent, fault, Result, Ran, ran}
-use Rattle.record.specs.Records.{Record, LOADI, ADD, JMP, JMPLESS, JMPGE}
+use Rattle.base.specs.Ends.{short, full, out-of-range, astray, End, done, spent, fault, Result, result, Ran, ran}
+use Rattle.word.specs.Sums.{SumRule, stopping}
+use Rattle.record.specs.Records.{Record, AssemblyCode, MachineCode, LOADI, ADD, JMP, JMPLESS, JMPGE}
 use Rattle.record.specs.Cases.{five}
 use Rattle.record.specs.declared.Variable.{Variable}
 use Rattle.record.specs.declared.Address.{Address}
-use Rattle.machine.specs.Machine.{Machine, fresh, run}
+use Rattle.machine.specs.Machine.{Machine, at, fresh, run}
 use Rattle.machine.specs.Memories.{Assembly, assembly, machine-cells}
 use Rattle.machine.specs.Calls.{sums, run-assembly, fresh-state, Told, finished, paused, go-on, run-machine}
 use Rattle.machine.specs.Calls.{without-state}
 use Rattle.machine.specs.Pieces.{in-pieces}
 use Rattle.machine.specs.declared.State.{State}
+
+-- What is lent: to assembly a stack of some cells, each 8, and a store of some cells, each 7
+abbrev pub lent : ℕ → ℕ → Assembly
+lent stack store = record { stack = replicate stack (pos 8); store = replicate store (pos 7) }
+
+-- to machine code a memory of some cells, each 8
+abbrev pub memory : ℕ → List ℤ
+memory k = replicate k (pos 8)
+
+-- ---- Ends
 
 -- A code, D and a budget; the end, the count and the mark
 pub record Row (Name : Type 0) : Type 0 where
@@ -31,8 +42,8 @@ pub record Row (Name : Type 0) : Type 0 where
 abbrev pub row : {Name : Type 0} → List (Record Name) → ℕ → ℕ → End → ℕ → ℕ → Row Name
 row P D b e k mark = record { code = P; depth = D; budget = b; end = e; count = k; mark = mark }
 
--- "Position equal to the number of records is done, before the budget is looked at; then spent; then short; full; out
--- of range; astray"; a comparing jump that isn't taken may have any operand
+-- "Position equal to the number of records is done, before the budget is looked at; then spent; then short; full; ..
+-- astray"; a sum past a limit ends no run (document 02, W8); a comparing jump that isn't taken may have any operand
 unfoldable pub rows : (Name : Type 0) → List (Row Name)
 rows Name =
     row [] 0 0 done 0 0
@@ -42,7 +53,7 @@ rows Name =
     ∷ row (LOADI (pos 1) ∷ ADD ∷ []) 2 9 (fault short) 2 1
     ∷ row (LOADI (pos 1) ∷ JMPGE (pos 9) ∷ []) 2 9 (fault short) 2 1
     ∷ row (LOADI (pos 1) ∷ LOADI (pos 2) ∷ []) 1 9 (fault full) 2 1
-    ∷ row (LOADI (pos 2147483647) ∷ LOADI (pos 1) ∷ ADD ∷ []) 2 9 (fault out-of-range) 3 2
+    ∷ row (LOADI (pos 2147483647) ∷ LOADI (pos 1) ∷ ADD ∷ []) 2 9 done 3 2
     ∷ row (JMP (pos 0) ∷ []) 0 9 done 1 0
     ∷ row (JMP (pos 1) ∷ []) 0 9 (fault astray) 1 0
     ∷ row (JMP (negsuc 1) ∷ []) 0 9 (fault astray) 1 0
@@ -68,11 +79,39 @@ by-machine k = ended-by k (run sums (k .depth) (machine-cells (k .depth)) (k .co
 abbrev pub EndsCome : Type 0
 EndsCome = (map by-assembly (rows Variable) ≡ rows Variable) × (map by-machine (rows Address) ≡ rows Address)
 
--- ---- Where run_assembly declines: 9, 8, 10, 11
+-- ---- Sums past a limit (document 02, W8)
 
--- what is lent: a stack of some cells, each 8, and a store of some cells, each 7
-abbrev pub lent : ℕ → ℕ → Assembly
-lent stack store = record { stack = replicate stack (pos 8); store = replicate store (pos 7) }
+-- LOADI 2147483647, LOADI 1, ADD, and LOADI −2147483648, LOADI −1, ADD, of either kind
+abbrev pub past-greatest : {Name : Type 0} → List (Record Name)
+past-greatest = LOADI (pos 2147483647) ∷ LOADI (pos 1) ∷ ADD ∷ []
+
+abbrev pub past-least : {Name : Type 0} → List (Record Name)
+past-least = LOADI (negsuc 2147483647) ∷ LOADI (negsuc 0) ∷ ADD ∷ []
+
+-- a run of assembly on two stack cells and of machine code with D 2 and no variable, cells 8; what it leaves
+abbrev pub small-assembly : SumRule → AssemblyCode → ℕ → Result (Machine Assembly)
+small-assembly sum P budget = run sum 2 assembly P budget 0 (fresh (lent 2 64))
+
+abbrev pub small-machine : SumRule → MachineCode → ℕ → Result (Machine (List ℤ))
+small-machine sum P budget = run sum 2 (machine-cells 2) P budget 0 (fresh (memory 3))
+
+-- The sum takes the limit's value, and the record is counted; by the stopping rule it ended the run, and was counted.
+pub record Holds : Type 0 where
+  pub greatest : small-assembly sums past-greatest 9
+      ≡ result done 6 2 (at 3 1 (record { stack = pos 2147483647 ∷ pos 1 ∷ []; store = replicate 64 (pos 7) }))
+  pub greatest-machine : small-machine sums past-greatest 9
+      ≡ result done 6 2 (at 3 1 (pos 1 ∷ pos 2147483647 ∷ pos 8 ∷ []))
+  pub least : small-assembly sums past-least 9
+      ≡ result done 6 2 (at 3 1 (record { stack = negsuc 2147483647 ∷ negsuc 0 ∷ []; store = replicate 64 (pos 7) }))
+  pub least-machine : small-machine sums past-least 9
+      ≡ result done 6 2 (at 3 1 (negsuc 0 ∷ negsuc 2147483647 ∷ pos 8 ∷ []))
+  pub stopped : small-machine stopping past-greatest 9
+      ≡ result (fault out-of-range) 6 2 (at 2 2 (pos 1 ∷ pos 2147483647 ∷ pos 8 ∷ []))
+  -- "The tick is charged as before": under 2 ticks the sum is not made
+  pub two-ticks : small-machine sums past-greatest 2
+      ≡ result spent 0 2 (at 2 2 (pos 1 ∷ pos 2147483647 ∷ pos 8 ∷ []))
+
+-- ---- Where run_assembly declines: 9, 8, 10, 11
 
 -- code with nothing to run is done at 0
 abbrev pub done-at-0 : Answer Ran
@@ -101,10 +140,6 @@ pub record AssemblyDeclines : Type 0 where
   pub ten-eleven : run-assembly (five 0x42 1) (lent 65 64) 9 ≡ (refused 10 0, lent 65 64)
 
 -- ---- Where run_machine declines: 9, 10, 11
-
--- a memory of some cells, each 8
-abbrev pub memory : ℕ → List ℤ
-memory k = replicate k (pos 8)
 
 -- Number and place, and the memory as it was. After the memory stand D, n and the budget. Where two refusals are due,
 -- the first in order is given.

@@ -1,6 +1,6 @@
 -- What is claimed of runs, on any memory, of any code and under any rule for sums. A run's count is the number of its
--- steps, its mark the most values that its stack held; it stays within its code and its stack; it goes on where it was
--- spent. The proof of the same spelling stands in proofs/.
+-- steps, its mark the most values that its stack held; it stays within its code and its stack; two rules for sums that
+-- agree give the same runs; a run goes on where it was spent. The proof of the same spelling stands in proofs/.
 use mathlib.Core.Path.{_≡_}
 use mathlib.Core.Logic.{_⊎_}
 use Prim.Native.Nat.{ℕ, suc, _+_, _≤_}
@@ -8,9 +8,9 @@ use mathlib.Core.List.{List}
 use mathlib.Core.Option.{none, some}
 use lib.ListN.{length, getElem?}
 use Rattle.base.specs.Acts.{ok, ended}
-use Rattle.word.specs.Sums.{SumRule}
+use Rattle.word.specs.Sums.{SumRule, stopping, holding, stopping-at, Extends}
 use Rattle.record.specs.Records.{Record}
-use Rattle.base.specs.Ends.{End, fault, Result, result}
+use Rattle.base.specs.Ends.{Fault, End, fault, Result, result}
 use Rattle.machine.specs.Machine.{Memory, Machine, act, run}
 
 -- ---- Runs as steps
@@ -56,6 +56,32 @@ module _ {M Name : Type 0} (sum : SumRule) (D : ℕ) (o : Memory M Name) (code :
   abbrev pub Inside : Type 0
   Inside = (n mark : ℕ) (s : Machine M) → InBounds mark s
       → let r = run sum D o code n mark s in InBounds (r .mark) (r .leaves)
+
+-- ---- Two rules for sums (document 02, W8)
+
+-- A run with n ticks from a machine with a mark, of the code on a memory with D stack slots, by a rule for sums
+module _ {M Name : Type 0} (D : ℕ) (o : Memory M Name) (code : List (Record Name)) where
+  -- Two rules of which the second gives what the first gives wherever that fits: a run that does not end out of range
+  -- by the first is the same by the second.
+  abbrev pub AgreedBy : SumRule → SumRule → Type 0
+  AgreedBy first second = Extends first second → (n mark : ℕ) (s : Machine M)
+      → (run first D o code n mark s .end ≡ fault Fault.out-of-range → ⊥)
+      → run second D o code n mark s ≡ run first D o code n mark s
+
+  -- The run comes to a sum whose exact value is past a limit, with k ticks left after that record. The other sums hold;
+  -- that this one comes up is seen by a rule that stops at it
+  abbrev pub BringsPast : ℕ → ℕ → Machine M → ℕ → Type 0
+  BringsPast n mark s k = run (stopping-at k) D o code n mark s .end ≡ fault Fault.out-of-range
+
+  -- A run in which no sum passes a limit is the same by both rules: its end, its ticks left, its mark, and the machine
+  -- that it leaves.
+  abbrev pub Agreed : Type 0
+  Agreed = (n mark : ℕ) (s : Machine M) → ((k : ℕ) → BringsPast n mark s k → ⊥)
+      → run holding D o code n mark s ≡ run stopping D o code n mark s
+
+  -- "No run ends out of range from now on": of any code, on any memory, from any machine, under any budget.
+  abbrev pub NeverOut : Type 0
+  NeverOut = (n mark : ℕ) (s : Machine M) → run holding D o code n mark s .end ≡ fault Fault.out-of-range → ⊥
 
 -- ---- A run in two parts
 

@@ -9,10 +9,8 @@ use lib.ListN.{length, getElem?}
 use lib.Signed.{ltZ}
 use Rattle.base.specs.Acts.{Outcome, ok, ended, Act, _>>=_, _>>_, if_then_else_}
 use Rattle.base.specs.Ends.{Fault, short, full, out-of-range, astray, End, done, spent, fault, Result, result}
-use Rattle.word.specs.Sums.{SumRule}
+use Rattle.word.specs.Sums.{Sum, fits, out, SumRule}
 use Rattle.word.specs.Targets.{target}
-use Rattle.word.specs.declared.Sum.{Sum}
-use Rattle.word.specs.declared.Sum.the-variants.{Fits, Out}
 use Rattle.word.specs.declared.Target.{Target}
 use Rattle.word.specs.declared.Target.the-variants.{To, Astray}
 use Rattle.record.specs.Records.{Record, LOADI, LOAD, ADD, STORE, JMP, JMPLESS, JMPGE}
@@ -68,10 +66,10 @@ module _ {M Name : Type 0} (sum : ℤ → ℤ → Sum) (D : ℕ) (o : Memory M N
   unfoldable pub keep : Name → ℤ → Step (Unit {0})
   keep x z s = ok tt (at (s .position) (s .size) (o .save (s .memory) x z))
 
-  -- "out of range (ADD)"
+  -- "out of range (ADD)": by the stopping rule alone
   unfoldable pub in-range : Sum → Step ℤ
-  in-range (Fits z) s = ok z s
-  in-range Out s = ended out-of-range
+  in-range (fits z) s = ok z s
+  in-range out s = ended out-of-range
 
   -- on to the next record
   unfoldable pub next : Step (Unit {0})

@@ -7,11 +7,9 @@ use mathlib.Core.Bool.{Bool, true, false, not, Bool·beq}
 use lib.IntN.{ℤ, _+ℤ_}
 use lib.Signed.{ltZ}
 use Rattle.base.specs.Acts.{ok, then′}
-use Rattle.base.specs.declared.End.the-variants.{OutOfRange, Short, Full}
-use Rattle.word.specs.Sums.{limited, stopping}
+use Rattle.base.specs.declared.End.the-variants.{Short, Full}
+use Rattle.word.specs.Sums.{fits, clamped, holding}
 use Rattle.word.specs.Targets.{target}
-use Rattle.word.specs.declared.Sum.{Sum}
-use Rattle.word.specs.declared.Sum.the-variants.{Fits, Out}
 use Rattle.record.specs.Records.{Record, LOADI, LOAD, ADD, STORE, JMP}
 use Rattle.machine.specs.Machine.{Memory, at, held, act}
 use Rattle.machine_step.specs.Code.{stopped, moved, landed, Stepped, step-of, counted, does}
@@ -19,7 +17,7 @@ use Rattle.machine_step.specs.Steps.{comparing}
 use Rattle.machine_step.specs.declared.Machine.{Machine}
 use Rattle.machine_step.specs.declared.Step.{Step}
 use Rattle.machine_step.proofs.Running.{moves-to, moves-below, landed-is}
-use Rattle.machine.proofs.Steps.{push-on, push-full, add-short, add-fits, add-out, store-short, store-on}
+use Rattle.machine.proofs.Steps.{push-on, push-full, add-short, add-fits, store-short, store-on}
 use Rattle.machine.proofs.Steps.{compare-stopped, compare-taken, compare-passed}
 use Rattle.machine.specs.Calls.{sums}
 
@@ -90,10 +88,9 @@ module _ {M Name : Type 0} (here : Place M Name) where
   -- ---- What the code found
 
   -- The sum of the values read is the rule's sum,
-  pub summed : {x y : ℤ} {z z′ : Sum} → z ≡ limited (x +ℤ y) → x ≡ second → y ≡ top → z ≡ z′
-      → sums 0 second top ≡ z′
-  unfolding stopping
-  summed e f g h = sym (e ∙ ap₂ (sums 0) f g) ∙ h
+  pub summed : {x y z : ℤ} → z ≡ clamped (x +ℤ y) → x ≡ second → y ≡ top → sums 0 second top ≡ fits z
+  unfolding holding
+  summed e f g = sym (ap fits e ∙ ap₂ (sums 0) f g)
 
   -- and their comparison is the two values'.
   pub compared : {x y : ℤ} {b b′ : Bool} → b ≡ ltZ x y → x ≡ second → y ≡ top → b ≡ b′ → ltZ second top ≡ b′
@@ -125,18 +122,11 @@ module _ {M Name : Type 0} (here : Place M Name) where
   unfolding counted
   add-stops e h = ap (λ r. step-of r m) e ∙ sym (ap (counted s m) (add-short (sums 0) D o last p k m h))
 
-  pub add-pushed : {r : Step} {m′ : M} {z z′ : ℤ} → r ≡ moved s (p + 1) (k - 1) μ → m′ ≡ o .poke m (k - 2) z′
-      → z′ ≡ z → 2 ≤ k → μ ≤ D → sums 0 second top ≡ Fits z → step-of r m′ ≡ did ADD
-  add-pushed {z = z} e f g h d q =
-      steps-on (k - 1) e (f ∙ ap (o .poke m (k - 2)) g) (omega arith)
+  pub add-pushed : {r : Step} {m′ : M} {z : ℤ} → r ≡ moved s (p + 1) (k - 1) μ → m′ ≡ o .poke m (k - 2) z → 2 ≤ k
+      → μ ≤ D → sums 0 second top ≡ fits z → step-of r m′ ≡ did ADD
+  add-pushed {z = z} e f h d q =
+      steps-on (k - 1) e f (omega arith)
       ∙ sym (ap (counted s m) (add-fits (sums 0) D o last z p k m h (omega (arith, here .held)) q))
-
-  pub add-leaves-range : {r : Step} → r ≡ stopped s OutOfRange → 2 ≤ k → μ ≤ D → sums 0 second top ≡ Out
-      → step-of r m ≡ did ADD
-  unfolding counted
-  add-leaves-range e h d q =
-      ap (λ r. step-of r m) e
-      ∙ sym (ap (counted s m) (add-out (sums 0) D o last p k m h (omega (arith, here .held)) q))
 
   -- ---- STORE
 

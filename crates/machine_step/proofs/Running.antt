@@ -16,7 +16,7 @@ use Rattle.base.specs.Ends.{Fault, fault, Result, result, Ran, ran, report}
 use Rattle.base.specs.Code.{end-of, run-answer}
 use Rattle.base.specs.declared.End.{End}
 use Rattle.base.specs.declared.Run as Code
-use Rattle.word.specs.Sums.{stopping}
+use Rattle.word.specs.Sums.{holding}
 use Rattle.word.specs.Targets.{target}
 use Rattle.word.specs.declared.Target.{Target}
 use Rattle.word.specs.declared.Target.the-variants.{To, Astray}
@@ -71,7 +71,7 @@ no-end a e = let no : _≡_ {A = ℕ} 0 1 = cc in omega arith
 
 -- The sum rule does not look at the ticks left.
 same-sum : (n : ℕ) → sums n ≡ sums 0
-unfolding stopping
+unfolding holding
 same-sum n = refl
 
 module _ {M : Type 0} (s : Machine) (m : M) where

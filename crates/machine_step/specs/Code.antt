@@ -22,19 +22,19 @@ use Rattle.machine_step.specs.declared.Halted.{Halted}
 
 -- "A fresh machine has position 0, stack empty, count 0", and its stack has held nothing
 abbrev pub fresh-machine : Machine
-fresh-machine = record { position = 0; count = 0; size = 0; mark = 0 }
+fresh-machine = record { position = 0; size = 0; count = 0; mark = 0 }
 
 -- The machine of a state (document 02, W7)
 abbrev pub resumed-machine : State → Machine
-resumed-machine s = record { position = s .position; count = s .count; size = s .size; mark = s .mark }
+resumed-machine s = record { position = s .position; size = s .size; count = s .count; mark = s .mark }
 
 -- The record counted and the run ended: "count the record and change nothing else"
 abbrev pub stopped : Machine → End → Step
-stopped s e = Ended e (record { position = s .position; count = s .count + 1; size = s .size; mark = s .mark })
+stopped s e = Ended e (record { position = s .position; size = s .size; count = s .count + 1; mark = s .mark })
 
 -- The record counted and the machine moved
 abbrev pub moved : Machine → ℕ → ℕ → ℕ → Step
-moved s position size mark = Next (record { position = position; count = s .count + 1; size = size; mark = mark })
+moved s position size mark = Next (record { position = position; size = size; count = s .count + 1; mark = mark })
 
 -- The record counted and a jump taken, with `size` values left
 abbrev pub landed : Machine → ℕ → Target → Step

@@ -12,7 +12,6 @@ use machine_cells::value_at;
 use machine_cells::value_in;
 use record::Address;
 use record::Variable;
-use word::Sum;
 use word::Target;
 ghost use mathlib.Core.Path.{_≡_};
 ghost use mathlib.Core.List.{List};
@@ -32,12 +31,12 @@ ghost use Rattle.machine_step.specs.Steps.{comparing, upward, downward, 
 ghost use Rattle.machine_step.specs.Steps.{on-machine, MachineSteps, MachinePassed};
 ghost use Rattle.machine_step.specs.Steps.{assembly-of, on-assembly, AssemblySteps, AssemblyPassed};
 
-// The position of the record due, the records counted, the number of values on the stack, and the mark: the most that
-// there were.
+// The position of the record due, the number of values on the stack, the records counted, and the mark: the most values
+// that there were.
 pub struct Machine {
     pub position: usize,
-    pub count: u32,
     pub size: usize,
+    pub count: u32,
     pub mark: usize,
 }
 
@@ -72,8 +71,8 @@ impl Machine {
     {
         Self {
             position: 0,
-            count: 0,
             size: 0,
+            count: 0,
             mark: 0,
         }
     }
@@ -84,8 +83,8 @@ impl Machine {
     {
         Self {
             position: state.position,
-            count: state.count,
             size: state.size,
+            count: state.count,
             mark: state.mark,
         }
     }
@@ -99,8 +98,8 @@ impl Machine {
             end,
             Machine {
                 position: self.position,
-                count: self.count + 1,
                 size: self.size,
+                count: self.count + 1,
                 mark: self.mark,
             },
         )
@@ -113,8 +112,8 @@ impl Machine {
     {
         Step::Next(Machine {
             position,
-            count: self.count + 1,
             size,
+            count: self.count + 1,
             mark,
         })
     }
@@ -147,7 +146,7 @@ impl Machine {
         self.moves(self.position + 1, size + 1, size + 1)
     }
 
-    // ADD: the sum of the two top values in their place. Short, or out of range.
+    // ADD: the sum of the two top values, or the limit that it is past, in their place. Short.
     fn add(self, lent: &mut [i32], limits: Limits) -> Step
         requires { ⌜ Ready self limits (now lent) ⌝ }
         ensures { λ r. ⌜ OnStack self limits (now (lent .entry)) (now (lent .exit)) r ADD ⌝ }
@@ -158,13 +157,8 @@ impl Machine {
         }
         let second = limits.peek(lent, size - 2);
         let top = limits.peek(lent, size - 1);
-        match word::add(second, top) {
-            Sum::Fits(z) => {
-                limits.poke(lent, size - 2, z);
-                self.moves(self.position + 1, size - 1, self.mark)
-            }
-            Sum::Out => self.stops(End::OutOfRange),
-        }
+        limits.poke(lent, size - 2, word::add(second, top));
+        self.moves(self.position + 1, size - 1, self.mark)
     }
 
     // JMPLESS under the flag true, JMPGE under false: both top values taken off, and a jump where second < top is the

@@ -21,7 +21,7 @@ abbrev pub packed-count : Answer ℕ → ℕ
 packed-count (refused number place) = packed-refusal number place
 packed-count (gives n) = 256 * (n % 65536)
 
--- A run: bits 8 to 15, the end; bits 16 to 47, the count; bits 48 to 55, the mark
+-- A run: bits 8 to 15, the end; bits 16 to 47, the count; bits 48 to 55, the mark. 2 comes no more (document 02, W8)
 abbrev pub end-number : End → ℕ
 end-number done = 0
 end-number spent = 1

@@ -66,7 +66,6 @@ fn end_number(end: End) -> u64
     match end {
         End::Done => 0,
         End::Spent => 1,
-        End::OutOfRange => 2,
         End::Short => 3,
         End::Full => 4,
         End::Astray => 5,

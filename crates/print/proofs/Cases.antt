@@ -5,7 +5,7 @@ use mathlib.Core.Path.{refl}
 use Rattle.base.specs.Acts.{then′, give}
 use Rattle.base.specs.Answers.{and-then, settle}
 use Rattle.word.specs.Numbers.{number-of, number-at}
-use Rattle.word.specs.Sums.{limited, stopping}
+use Rattle.word.specs.Sums.{clamped, holding}
 use Rattle.text.specs.Reading.{expression-byte, condition-byte, command-byte, decline, there, due, pass, operand}
 use Rattle.text.specs.Reading.{number-due, number, expression-of, expression, condition-of, condition, command-of}
 use Rattle.text.specs.Reading.{command, all-read, read-text}
@@ -30,7 +30,7 @@ pub lines-as-bytes : LinesAsBytes
 lines-as-bytes = refl
 
 pub printed-B : PrintedB
-unfolding B·text zeros then′ give and-then settle number-of number-at limited stopping
+unfolding B·text zeros then′ give and-then settle number-of number-at clamped holding
     expression-byte condition-byte command-byte decline there due pass operand number-due number
     expression-of expression condition-of condition command-of command all-read read-text
     expression-records condition-records records expression-depth condition-depth depth
@@ -42,7 +42,7 @@ unfolding B·text zeros then′ give and-then settle number-of number-at limited
 printed-B = refl
 
 pub printed-C : PrintedC
-unfolding C·text zeros then′ give and-then settle number-of number-at limited stopping
+unfolding C·text zeros then′ give and-then settle number-of number-at clamped holding
     expression-byte condition-byte command-byte decline there due pass operand number-due number
     expression-of expression condition-of condition command-of command all-read read-text
     expression-records condition-records records expression-depth condition-depth depth
@@ -54,7 +54,7 @@ unfolding C·text zeros then′ give and-then settle number-of number-at limited
 printed-C = refl
 
 pub printed-G : PrintedG
-unfolding G·text zeros then′ give and-then settle number-of number-at limited stopping
+unfolding G·text zeros then′ give and-then settle number-of number-at clamped holding
     expression-byte condition-byte command-byte decline there due pass operand number-due number
     expression-of expression condition-of condition command-of command all-read read-text
     expression-records condition-records records expression-depth condition-depth depth

@@ -38,7 +38,7 @@ PrintedC = shown C·text ≡ lines (
     ∷ "0 3"
     ∷ [])
 
--- G, whole: out of range at 3; no variable is named.
+-- G, whole: done at 5, with a sum past a limit (document 02, W8); no variable is named.
 abbrev pub PrintedG : Type 0
 PrintedG = shown G·text ≡ lines (
     "records 7 stack 2 cells 0"
@@ -49,7 +49,7 @@ PrintedG = shown G·text ≡ lines (
     ∷ "4 JMPGE 2 | MJMPGE 2"
     ∷ "5 JMP 1 | MJMP 1"
     ∷ "6 JMP 0 | MJMP 0"
-    ∷ "run range 3"
+    ∷ "run done 5"
     ∷ [])
 
 -- J, whole: spent at the budget.

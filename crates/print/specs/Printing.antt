@@ -4,7 +4,7 @@ use mathlib.Core.List.{List, [], _∷_, _++_}
 use lib.IntN.{ℤ, pos}
 use lib.ListN.{getD}
 use Rattle.base.specs.Answers.{Answer, gives, refused}
-use Rattle.base.specs.Ends.{End, done, spent, fault, short, full, out-of-range, astray, Ran}
+use Rattle.base.specs.Ends.{End, done, spent, fault, Ran}
 use Rattle.text.specs.Syntax.{Command}
 use Rattle.text.specs.Reading.{read-text}
 use Rattle.text.specs.Sizes.{sizes}
@@ -60,15 +60,13 @@ record-lines i (a ∷ P) (m ∷ Q) =
     decimal i ++ (ascii " " ++ (record-text assembly-kind a ++ (ascii " | M" ++ (record-text (machine-kind 0) m
     ++ (newline ++ record-lines (suc i) P Q)))))
 
--- ---- "Then end (done, spent or range) and count"
+-- ---- "Then end (done, spent ..) and count"
 
+-- A text's run has no other end (source/specs/Rules: end-of; fitting/specs/NeverOut)
 unfoldable pub end-text : End → List ℕ
 end-text done = ascii "done"
 end-text spent = ascii "spent"
-end-text (fault short) = ascii "short"
-end-text (fault full) = ascii "full"
-end-text (fault out-of-range) = ascii "range"
-end-text (fault astray) = ascii "astray"
+end-text (fault e) = []
 
 unfoldable pub run-line : End → ℕ → List ℕ
 run-line e count = ascii "run " ++ (end-text e ++ (ascii " " ++ (decimal count ++ newline)))

@@ -4,7 +4,7 @@ use Prim.Native.Nat.{ℕ, zero, suc, _+_, _*_, _<_, _≤_}
 use native.Mathlib.Omega.{arith}
 use lib.IntN.{ℤ}
 use lib.ListN.{length, length-append}
-use Rattle.base.specs.Ends.{End, done, spent, fault, short, full, out-of-range, astray}
+use Rattle.base.specs.Ends.{End, done, spent, fault}
 use Rattle.text.specs.declared.Sizes.{Sizes}
 use Rattle.record.specs.Records.{Record, LOADI, LOAD, ADD, STORE, JMP, JMPLESS, JMPGE, AssemblyCode, MachineCode}
 use Rattle.record.specs.Bytes.{Kind, operand, assembly-kind, machine-kind}
@@ -51,16 +51,13 @@ record-lines-length i (a ∷ P) (m ∷ Q) h =
 
 -- ---- The run's line and the value lines
 
-pub end-length : (e : End) → length (end-text e) ≤ 6
+pub end-length : (e : End) → length (end-text e) ≤ 5
 unfolding end-text
 end-length done = omega arith
 end-length spent = omega arith
-end-length (fault short) = omega arith
-end-length (fault full) = omega arith
-end-length (fault out-of-range) = omega arith
-end-length (fault astray) = omega arith
+end-length (fault e) = omega arith
 
-pub run-line-length : (e : End) (count : ℕ) → length (run-line e count) ≤ 22
+pub run-line-length : (e : End) (count : ℕ) → length (run-line e count) ≤ 21
 unfolding run-line
 run-line-length e count = simp length-append (omega (arith, end-length e, decimal-length count))
 

@@ -31,22 +31,22 @@ pub fn put_first_line(out: &mut [u8], at: usize, sizes: Sizes) -> usize
 
 // ---- The run's end and count
 
+// The word for an end; a text's run is done or spent.
 fn put_end(out: &mut [u8], at: usize, end: End) -> usize
-    requires { ⌜ at + 6 ≤ length (now out) ⌝ }
+    requires { ⌜ at + 5 ≤ length (now out) ⌝ }
     ensures { λ r. ⌜ Puts (end-text (end-of end)) at (now (out .entry)) (now (out .exit)) r ⌝ }
 {
     match end {
         End::Done => print_ascii::put_word(out, at, b"done"),
         End::Spent => print_ascii::put_word(out, at, b"spent"),
-        End::OutOfRange => print_ascii::put_word(out, at, b"range"),
-        End::Short => print_ascii::put_word(out, at, b"short"),
-        End::Full => print_ascii::put_word(out, at, b"full"),
-        End::Astray => print_ascii::put_word(out, at, b"astray"),
+        End::Short => at,
+        End::Full => at,
+        End::Astray => at,
     }
 }
 
 pub fn put_run_line(out: &mut [u8], at: usize, end: End, count: u32) -> usize
-    requires { ⌜ at + 22 ≤ length (now out) ⌝ }
+    requires { ⌜ at + 21 ≤ length (now out) ⌝ }
     ensures { λ r. ⌜ Puts (run-line (end-of end) count) at (now (out .entry)) (now (out .exit)) r ⌝ }
 {
     let next = print_ascii::put_word(out, at, b"run ");

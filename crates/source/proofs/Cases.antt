@@ -1,5 +1,6 @@
--- Profiles A to K under the source rules, a mark tick by tick, where the call declines, and previews, by computation
--- (Cases: Tallies, MarkTickByTick, Declines, Previews, PreviewDeclines); J at every budget, pass by pass (Forever).
+-- Profiles A to K under the source rules, a mark tick by tick, sums past a limit, where the call declines, and
+-- previews, by computation (Cases: Tallies, MarkTickByTick, Holds, Declines, Previews, PreviewDeclines); J at every
+-- budget, pass by pass (Forever).
 use mathlib.Core.Path.{_≡_, refl, _∙_, ap}
 use Prim.Native.Nat.{ℕ, zero, suc, _-_, _<_}
 use native.Mathlib.Omega.{arith}
@@ -8,7 +9,7 @@ use Rattle.base.specs.Acts.{then′, give}
 use Rattle.base.specs.Answers.{gives, and-then, settle, previewed}
 use Rattle.base.specs.Ends.{End, Result, result, ran, report}
 use Rattle.word.specs.Numbers.{number-of, number-at, byte-number}
-use Rattle.word.specs.Sums.{limited, stopping}
+use Rattle.word.specs.Sums.{limited, stopping, clamped, holding}
 use Rattle.text.specs.Reading.{expression-byte, condition-byte, command-byte, decline, there, due, pass, operand}
 use Rattle.text.specs.Reading.{number-due, number, expression-of, expression, condition-of, condition, command-of}
 use Rattle.text.specs.Reading.{command, all-read, read-text}
@@ -19,23 +20,40 @@ use Rattle.source.specs.Rules.{Store, start, run-rules}
 use Rattle.source.specs.Rules.{charge, tick, raise, lower, cell, assign, in-range, add, value, truth, loop, exec}
 use Rattle.source.specs.Rules.{end-of, result-of}
 use Rattle.source.specs.Calls.{sums, source-tests, run-source, preview-source}
-use Rattle.source.specs.Cases.{zeros, Tallies, MarkTickByTick, Forever, Declines, Previews, PreviewDeclines}
+use Rattle.source.specs.Cases.{zeros, Tallies, MarkTickByTick, Holds, Forever, Declines, Previews}
+use Rattle.source.specs.Cases.{PreviewDeclines}
 use Rattle.source.proofs.Calls.{source-runs}
 
 pub tallies : Tallies
 unfolding texts A·text B·text C·text D·text E·text F·text G·text H·text I·text J·text K·text zeros
-    then′ give and-then settle number-of number-at limited stopping
+    then′ give and-then settle number-of number-at clamped holding
     expression-byte condition-byte command-byte decline there due pass operand number-due number
     expression-of expression condition-of condition command-of command all-read read-text
     charge tick raise lower cell assign in-range add value truth loop exec end-of result-of source-tests run-source
 tallies = refl
 
 pub mark-tick-by-tick : MarkTickByTick
-unfolding zeros then′ give and-then settle byte-number limited stopping
+unfolding zeros then′ give and-then settle byte-number clamped holding
     expression-byte condition-byte command-byte decline there due pass operand number-due number
     expression-of expression condition-of condition command-of command all-read read-text
     charge tick raise lower cell assign in-range add value truth loop exec end-of result-of source-tests run-source
 mark-tick-by-tick = refl
+
+-- ---- Sums past a limit
+
+pub holds : Holds
+unfolding G·text then′ give and-then settle number-of number-at byte-number limited stopping clamped holding
+    expression-byte condition-byte command-byte decline there due pass operand number-due number
+    expression-of expression condition-of condition command-of command all-read read-text
+    charge tick raise lower cell assign in-range add value truth loop exec end-of result-of source-tests run-source
+holds = record {
+  G = refl;
+  G-stopped = refl;
+  at-limits = refl;
+  two-ticks = refl;
+  three-ticks = refl;
+  four-ticks = refl;
+}
 
 -- ---- J
 
@@ -80,7 +98,7 @@ declines = record {
 -- ---- Previews
 
 pub previews : Previews
-unfolding then′ give and-then settle previewed byte-number limited stopping
+unfolding then′ give and-then settle previewed byte-number clamped holding
     expression-byte condition-byte command-byte decline there due pass operand number-due number
     expression-of expression condition-of condition command-of command all-read read-text
     charge tick raise lower cell assign in-range add value truth loop exec end-of result-of

@@ -10,10 +10,8 @@ use lib.IntN.{ℤ, pos, _+ℤ_}
 use lib.ListN.{getD, set}
 use lib.Signed.{ltZ}
 use Rattle.base.specs.Acts.{ok, ended, then′, _>>=_, _>>_, give, if_then_else_}
-use Rattle.word.specs.Sums.{SumRule}
+use Rattle.word.specs.Sums.{Sum, fits, out, SumRule}
 use Rattle.word.specs.Claims.{Exact}
-use Rattle.word.specs.declared.Sum.{Sum}
-use Rattle.word.specs.declared.Sum.the-variants.{Fits, Out}
 use Rattle.text.specs.Syntax.{Expression, Constant, Variable, Plus, Condition, Bc, Not, And, Less, Command, SKIP}
 use Rattle.text.specs.Syntax.{_:=_, _⨾_, IF_THEN_ELSE_, WHILE_DO_}
 use Rattle.source.proofs.Passes.{Ends, ends-then, ends-tick, ends-step, ends-if, pass, again}
@@ -31,8 +29,8 @@ module _ (sum : SumRule) (exact : Exact sum) where
   ends-sum x y s Q h = go (sum (s .left) x y) refl
     where
       go : (r : Sum) → sum (s .left) x y ≡ r → Ends (in-range r s) Q
-      go (Fits z) e = subst (λ w. Q w s) (sym (exact (s .left) x y z e)) h
-      go Out e = tt
+      go (fits z) e = subst (λ w. Q w s) (sym (exact (s .left) x y z e)) h
+      go out e = tt
 
   ends-cell : (v : ℕ) (t : Store) (s : State) (Q : ℤ → State → Type 0) → s .store ≡ t → Q (getD t v (pos 0)) s
       → Ends (cell v s) Q
@@ -183,8 +181,8 @@ module _ (sum : SumRule) (exact : Exact sum) where
     where
       go : (v : State) → v .store ≡ s → (r : Sum) → sum (v .left) x y ≡ r
           → Yields (in-range r v) (x +ℤ y) (v .left) s
-      go v e (Fits z) k = inl (v, ap (λ w. ok w v) (exact (v .left) x y z k), refl, e)
-      go v e Out k = inr (_, refl)
+      go v e (fits z) k = inl (v, ap (λ w. ok w v) (exact (v .left) x y z k), refl, e)
+      go v e out k = inr (_, refl)
 
   value-gives : (a : Expression) (s : Store) → Gives (value sum a) s (aval a s) s
   unfolding value aval cell

@@ -1,5 +1,5 @@
--- The comparison with the published rules, of texts and of the call run_source (Claims: PublishedTexts): the call tells
--- the end and the store of the rules' outcome.
+-- The comparison with the published rules (Claims: Published), and of texts and of the call run_source (Claims:
+-- PublishedTexts): the call tells the end and the store of the rules' outcome.
 use mathlib.Core.Path.{_≡_, refl, sym, _∙_, ap}
 use mathlib.Core.Logic.{_↔_}
 use Prim.Native.Nat.{ℕ, _-_}
@@ -8,20 +8,30 @@ use mathlib.Core.List.{List}
 use lib.ListN.{length}
 use Rattle.base.specs.Acts.{ok, ended}
 use Rattle.base.specs.Answers.{Answer, gives}
-use Rattle.base.specs.Ends.{Fault, End, fault, Result, Ran, ran, report}
+use Rattle.base.specs.Ends.{End, Ran, ran, report}
 use Rattle.base.proofs.Answers.{gives-one}
+use Rattle.word.specs.Sums.{stopping}
 use Rattle.word.proofs.Claims.{exact}
 use Rattle.text.specs.Syntax.{Command}
 use Rattle.text.specs.Reading.{read-text}
 use Rattle.source.specs.BigStep.{BigStep}
 use Rattle.source.specs.Calls.{sums, run-source}
-use Rattle.source.specs.Claims.{Published, PublishedTexts}
+use Rattle.source.specs.Claims.{BringsPast, Published, PublishedTexts}
 use Rattle.source.specs.Rules.{Early, State, Store, Outcomes, start, exec, end-of, result-of, run-rules}
 use Rattle.source.proofs.Calls.{source-runs}
+use Rattle.source.proofs.SumRules.{same-outcome, same-condition}
 use Rattle.source.proofs.Equivalence.{published-by}
 
+-- Where no budget brings a sum past a limit, the two rules give the same outcomes; and the stopping rule is exact.
 pub published : Published
-published = published-by sums exact
+published c s none t = (
+  λ (n, u, e, k). rules .0 (n, u, sym (same-outcome c s n (none n)) ∙ e, k),
+  λ x. let (n, u, e, k) = rules .1 x in (n, u, same-outcome c s n (none n) ∙ e, k),
+)
+  where
+    rules : ((n : ℕ) × (u : State) × (exec stopping c (start n s) ≡ ok tt u) × (u .store ≡ t)) ↔ BigStep c s t
+    rules = published-by stopping exact c s (λ n u e.
+        let (k, past) = same-condition c s n .1 (u, e) in none n k past) t
 
 -- an outcome whose result is done
 done-outcome : (x : Outcomes (Unit {0})) → result-of x .end ≡ End.done
@@ -57,14 +67,12 @@ module _ (text : List ℕ) (c : Command) (read : read-text text ≡ gives c) (s 
   abbrev Done : Store → Type 0
   Done t = (budget : ℕ) × (k : ℕ) × (μ : ℕ) × (run-source text s budget ≡ (gives (ran End.done k μ), t))
 
-  same-stores : ((budget k μ : ℕ) (u : Store)
-      → run-source text s budget ≡ (gives (ran (fault Fault.out-of-range) k μ), u) → ⊥)
-      → (t : Store) → Done t ↔ BigStep c s t
-  unfolding result-of end-of
-  same-stores fine t = (to, back)
+  same-stores : ((n k : ℕ) → BringsPast c s n k → ⊥) → (t : Store) → Done t ↔ BigStep c s t
+  unfolding result-of
+  same-stores none t = (to, back)
     where
       rules : ((n : ℕ) × (u : State) × (exec sums c (start n s) ≡ ok tt u) × (u .store ≡ t)) ↔ BigStep c s t
-      rules = published c s (λ n u e. fine n (n - u .left) (u .mark) (u .store) (told n ∙ ap (telling n) e)) t
+      rules = published c s none t
 
       to : Done t → BigStep c s t
       to (n, k, μ, h) =

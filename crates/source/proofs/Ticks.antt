@@ -4,9 +4,7 @@ use native.Mathlib.Omega.{arith}
 use mathlib.Core.Bool.{Bool, true, false, not, Bool·beq}
 use lib.IntN.{ℤ}
 use Rattle.base.specs.Acts.{ok, ended, then′, give, if_then_else_}
-use Rattle.word.specs.Sums.{SumRule}
-use Rattle.word.specs.declared.Sum.{Sum}
-use Rattle.word.specs.declared.Sum.the-variants.{Fits, Out}
+use Rattle.word.specs.Sums.{Sum, fits, out, SumRule}
 use Rattle.text.specs.Syntax.{Expression, Constant, Variable, Plus, Condition, Bc, Not, And, Less, Command, SKIP}
 use Rattle.text.specs.Syntax.{_:=_, _⨾_, IF_THEN_ELSE_, WHILE_DO_}
 use Rattle.source.specs.Rules.{State, Rule, Outcomes, charge, tick, raise, lower, cell, assign, in-range}
@@ -62,8 +60,8 @@ low-assign v z n s h = h
 
 low-in-range : (t : Sum) → Lowers (in-range t)
 unfolding Low in-range
-low-in-range (Fits z) n s h = h
-low-in-range Out n s h = h
+low-in-range (fits z) n s h = h
+low-in-range out n s h = h
 
 -- a tick and then more
 low-after : {A : Type 0} (r : Rule A) → Lowers r → Lowers (λ s. then′ (tick s) (λ _. r))

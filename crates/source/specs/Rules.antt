@@ -8,13 +8,11 @@ use lib.ListN.{getD, set}
 use lib.Signed.{ltZ}
 use Rattle.base.specs.Acts.{Outcome, ok, ended, Act, _>>=_, _>>_, give, if_then_else_}
 use Rattle.base.specs.Ends.{End, Fault, fault, Result, result}
-use Rattle.word.specs.Sums.{SumRule}
-use Rattle.word.specs.declared.Sum.{Sum}
-use Rattle.word.specs.declared.Sum.the-variants.{Fits, Out}
+use Rattle.word.specs.Sums.{Sum, fits, out, SumRule}
 use Rattle.text.specs.Syntax.{Expression, Constant, Variable, Plus, Condition, Bc, Not, And, Less, Command, SKIP}
 use Rattle.text.specs.Syntax.{_:=_, _⨾_, IF_THEN_ELSE_, WHILE_DO_}
 
--- The ends of a run that is not done: "spent" and "out of range"
+-- The ends of a run that is not done: "spent", and by the stopping rule for sums "out of range"
 pub data Early : Type 0 where
   spent out-of-range : Early
 
@@ -80,10 +78,10 @@ cell v s = ok (getD (s .store) v (pos 0)) s
 unfoldable pub assign : ℕ → ℤ → Rule (Unit {0})
 assign v z s = ok tt (state (s .left) (s .height) (s .mark) (set (s .store) v z))
 
--- "A sum [out of range] ends the run out of range, that tick counted"
+-- "A sum [out of range] ends the run out of range, that tick counted": by the stopping rule alone
 unfoldable pub in-range : Sum → Rule ℤ
-in-range (Fits z) s = ok z s
-in-range Out s = stop out-of-range s
+in-range (fits z) s = ok z s
+in-range out s = stop out-of-range s
 
 -- The rule for sums is a parameter, and gets the ticks left after the sum's tick (word/specs/Sums says why)
 module _ (sum : SumRule) where

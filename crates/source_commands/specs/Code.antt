@@ -3,15 +3,14 @@
 use Prim.Native.Nat.{ℕ}
 use lib.IntN.{ℤ}
 use Rattle.base.specs.Acts.{ok, ended, _>>_}
-use Rattle.source.specs.Rules.{Store, Rule, Outcomes, state, ending, tick, lower, assign}
+use Rattle.source.specs.Rules.{spent, Store, Rule, Outcomes, state, ending, tick, lower, assign}
 use Rattle.source_values.specs.Placed.{Reached, _upto_}
-use Rattle.source_values.specs.Code.{early}
 use Rattle.source_commands.specs.declared.Progress.{Progress}
-use Rattle.source_commands.specs.declared.Progress.the-variants.{On, Ended}
+use Rattle.source_commands.specs.declared.Progress.the-variants.{On, Spent}
 
 abbrev pub went : Progress → ℕ → ℕ → Store → Outcomes (Reached (Unit {0}))
 went (On next) left mark store = ok (tt upto next) (state left 0 mark store)
-went (Ended e) left mark store = ended (early e, ending left mark store)
+went Spent left mark store = ended (spent, ending left mark store)
 
 -- What is done once an assignment's expression has its value
 abbrev pub storing : ℕ → ℤ → Rule (Unit {0})

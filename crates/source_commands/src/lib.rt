@@ -12,7 +12,6 @@ ghost use Rattle.source.specs.Calls.{sums};
 ghost use Rattle.source_values.specs.Placed.{Read, placed, up-to};
 ghost use Rattle.source_commands.specs.Code.{went, storing};
 use base::VARIABLES;
-use source_values::Early;
 use source_values::Truth;
 use source_values::Value;
 use source_values::guard;
@@ -25,10 +24,10 @@ use text_shape::IF;
 use text_shape::SEQUENCE;
 use text_shape::SKIP;
 
-// What a command comes to: the run goes on after it, or has ended.
+// What a command comes to: the run goes on after it, or is spent.
 pub enum Progress {
     On(usize),
-    Ended(Early),
+    Spent,
 }
 
 // The value that stood on the stack stored: one tick.
@@ -40,7 +39,7 @@ fn stored(store: &mut [i32; VARIABLES], v: usize, z: i32, next: usize, left: &mu
     ensures { λ r. ⌜ length (now (store .exit)) ≡ 64 ⌝ }
 {
     if *left == 0 {
-        return Progress::Ended(Early::Spent);
+        return Progress::Spent;
     }
     *left = *left - 1;
     store[v] = z;
@@ -53,7 +52,7 @@ fn ticked(next: usize, left: &mut u32) -> Progress
         ≡ up-to next tick (state (now (left .entry)) 0 mark m)) ⌝ }
 {
     if *left == 0 {
-        return Progress::Ended(Early::Spent);
+        return Progress::Spent;
     }
     *left = *left - 1;
     Progress::On(next)
@@ -78,9 +77,9 @@ fn assignment(
     ensures { λ r. ⌜ length (now (store .exit)) ≡ 64 ⌝ }
 {
     match right_side(text, at + 2, nest - 1, store, left) {
-        Value::Ended { end, high } => {
+        Value::Spent { high } => {
             raise(mark, high);
-            Progress::Ended(end)
+            Progress::Spent
         }
         Value::Of { value, high, next } => {
             raise(mark, high);
@@ -117,7 +116,7 @@ pub fn execute(
             SKIP => return Progress::On(at + 1),
             ASSIGN => return assignment(text, at, nest, store, left, mark),
             SEQUENCE => match execute(text, at + 1, nest - 1, store, left, mark, ends) {
-                Progress::Ended(end) => return Progress::Ended(end),
+                Progress::Spent => return Progress::Spent,
                 Progress::On(next) => {
                     at = next;
                     nest = nest - 1;
@@ -150,14 +149,14 @@ fn choice(
     ensures { λ r. ⌜ length (now (store .exit)) ≡ 64 ⌝ }
 {
     match test(text, at + 1, nest - 1, false, store, left, mark, ends) {
-        Truth::Ended(end) => return Progress::Ended(end),
+        Truth::Spent => return Progress::Spent,
         Truth::Of { value, next: first } => {
             if !value {
                 let second = part_end(text, first, ends);
                 return execute(text, second, nest - 1, store, left, mark, ends);
             }
             match execute(text, first, nest - 1, store, left, mark, ends) {
-                Progress::Ended(end) => return Progress::Ended(end),
+                Progress::Spent => return Progress::Spent,
                 Progress::On(second) => return ticked(part_end(text, second, ends), left),
             }
         }
@@ -186,16 +185,16 @@ fn repeat(
 {
     loop {
         match guard(text, at + 1, nest - 1, store, left, mark, ends) {
-            Truth::Ended(end) => return Progress::Ended(end),
+            Truth::Spent => return Progress::Spent,
             Truth::Of { value, next: body } => {
                 if !value {
                     return Progress::On(part_end(text, body, ends));
                 }
                 match execute(text, body, nest - 1, store, left, mark, ends) {
-                    Progress::Ended(end) => return Progress::Ended(end),
+                    Progress::Spent => return Progress::Spent,
                     Progress::On(_) => {
                         if *left == 0 {
-                            return Progress::Ended(Early::Spent);
+                            return Progress::Spent;
                         }
                         *left = *left - 1;
                     }

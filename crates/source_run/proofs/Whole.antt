@@ -27,7 +27,7 @@ use Rattle.text.proofs.Opened.{taken, read-gives, read-refuses}
 use Rattle.text.proofs.Longer.{command-longer}
 use Rattle.text_ends.specs.Ends.{PartEnds}
 use Rattle.text_ends.proofs.Longer.{ends-longer}
-use Rattle.source.specs.Rules.{Store, start, Outcomes, result-of}
+use Rattle.source.specs.Rules.{Store, start, Outcomes, end-of, result-of}
 use Rattle.source.specs.Calls.{sums, source-tests, run-source, preview-source}
 use Rattle.source.proofs.Calls.{source-runs}
 use Rattle.source.proofs.Ticks.{Low, low-exec}
@@ -35,7 +35,7 @@ use Rattle.source_values.specs.Placed.{Read, placed}
 use Rattle.source_values.proofs.Steps.{was-read, gave, stopped}
 use Rattle.source_commands.specs.Code.{went}
 use Rattle.source_commands.specs.declared.Progress.{Progress}
-use Rattle.source_commands.specs.declared.Progress.the-variants.{On, Ended}
+use Rattle.source_commands.specs.declared.Progress.the-variants.{On, Spent}
 use Rattle.source_commands.proofs.Commands.{doing}
 use Rattle.source_run.specs.Code.{told, runs, Runs, Laid}
 
@@ -118,10 +118,10 @@ module _ (text : List ℕ) {c : Command} {n : ℕ} (part : command text 64 0 ≡
 
   pub tells : (r : Progress) (left μ : ℕ) (m : Store)
       → went r left μ m ≡ placed doing (command text 64 0) (start budget store) → Tells c budget store r left μ m
-  unfolding Low result-of
+  unfolding Low end-of result-of
   tells (On next) left μ m e =
       let d = gave doing _ part (sym e) .0 in record { few = low _ d; same = by-rules _ d }
-  tells (Ended k) left μ m e =
+  tells Spent left μ m e =
       let d = stopped doing _ part (sym e) in record { few = low _ d; same = by-rules _ d }
 
 -- ---- A text in its buffer

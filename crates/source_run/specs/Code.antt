@@ -8,17 +8,16 @@ use Rattle.base.specs.Answers.{Answer, gives}
 use Rattle.base.specs.Ends.{End, done, Ran, ran, report}
 use Rattle.text.specs.Syntax.{Command}
 use Rattle.text.specs.Reading.{command, read-text}
-use Rattle.source.specs.Rules.{Store, end-of, run-rules}
+use Rattle.source.specs.Rules.{Store, run-rules}
 use Rattle.source.specs.Calls.{sums}
-use Rattle.source_values.specs.Code.{early}
 use Rattle.source_commands.specs.declared.Progress.{Progress}
-use Rattle.source_commands.specs.declared.Progress.the-variants.{On, Ended}
+use Rattle.source_commands.specs.declared.Progress.the-variants.{On, Spent}
 
 -- ---- What a text's command came to
 
 abbrev pub run-end : Progress → End
 run-end (On next) = done
-run-end (Ended e) = end-of (early e)
+run-end Spent = End.spent
 
 -- The end, the count and the mark, from the budget, the ticks left and the mark
 abbrev pub told : Progress → ℕ → ℕ → ℕ → Ran

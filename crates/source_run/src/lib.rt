@@ -6,16 +6,14 @@ ghost use lib.Dec.{leb};
 ghost use lib.ListN.{length, getD};
 ghost use Rattle.base.specs.Acts.{if_then_else_};
 ghost use Rattle.base.specs.Answers.{gives, and-then};
-ghost use Rattle.base.specs.Code.{end-of, run-answer, preview-answer};
+ghost use Rattle.base.specs.Code.{run-answer, preview-answer};
 ghost use Rattle.text.specs.Syntax.{Command};
 ghost use Rattle.text.specs.Reading.{command, read-text};
 ghost use Rattle.text.specs.Sizes.{sizes};
 ghost use Rattle.text.specs.Code.{sizes-answer};
 ghost use Rattle.text_ends.specs.Ends.{PartEnds, first};
-ghost use Rattle.source.specs.Rules as Rules;
 ghost use Rattle.source.specs.Calls.{source-tests, run-source, preview-source};
 ghost use Rattle.source_values.specs.Placed.{Read};
-ghost use Rattle.source_values.specs.Code.{early};
 ghost use Rattle.source_run.specs.Code.{told, runs, Runs, Laid};
 use base::End;
 use base::Preview;
@@ -25,7 +23,6 @@ use base::copy_bytes;
 use base::copy_cells;
 use source_commands::Progress;
 use source_commands::execute;
-use source_values::Early;
 use text::Reading;
 use text_ends::SHORT_TEXT;
 use text_ends::first_loop;
@@ -46,16 +43,6 @@ pub fn test(text: &[u8], store: &[i32]) -> Reading
     reading
 }
 
-// An early end, as an end of a run.
-fn end_of(end: Early) -> End
-    ensures { λ r. ⌜ end-of r ≡ Rules.end-of (early end) ⌝ }
-{
-    match end {
-        Early::Spent => End::Spent,
-        Early::OutOfRange => End::OutOfRange,
-    }
-}
-
 // The end, the count and the mark of a run, from what its command came to.
 fn report(progress: Progress, budget: u32, left: u32, mark: usize) -> Run
     requires { ⌜ left ≤ budget ⌝ }
@@ -67,8 +54,8 @@ fn report(progress: Progress, budget: u32, left: u32, mark: usize) -> Run
             count: budget - left,
             mark,
         },
-        Progress::Ended(end) => Run::Ended {
-            end: end_of(end),
+        Progress::Spent => Run::Ended {
+            end: End::Spent,
             count: budget - left,
             mark,
         },

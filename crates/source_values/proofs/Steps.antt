@@ -13,7 +13,7 @@ use Rattle.source.specs.Rules.{Early, spent, Store, State, state, Ending, endin
 use Rattle.source_values.specs.Placed.{Read, Reached, _upto_, placed, reaching}
 use Rattle.source_values.specs.Code.{valued, Within, tested}
 use Rattle.source_values.specs.declared.Value.{Value}
-use Rattle.source_values.specs.declared.Value.the-variants.{Of as OfValue, Ended as EndedValue}
+use Rattle.source_values.specs.declared.Value.the-variants.{Of as OfValue, Spent as SpentValue}
 use Rattle.source_values.specs.declared.Truth.{Truth}
 
 -- ---- A tick
@@ -78,7 +78,7 @@ within-told most e w = subst (λ r. Within r most) e w
 
 pub within-more : (r : Value) (most more : ℕ) → most ≤ more → Within r most → Within r more
 within-more (OfValue z high next) most more l w = (w .0, omega (arith, w .1))
-within-more (EndedValue e high) most more l w = omega arith
+within-more (SpentValue high) most more l w = omega arith
 
 -- ---- What a call gave, by a match on its result, is the rules' outcome
 

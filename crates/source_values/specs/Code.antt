@@ -6,20 +6,13 @@ use Prim.Native.Nat.{ℕ, suc, _+_, _≤_, max}
 use lib.IntN.{ℤ}
 use lib.Signed.{ltZ}
 use Rattle.base.specs.Acts.{ok, ended, _>>_, give}
-use Rattle.source.specs.Rules as Rules
-use Rattle.source.specs.Rules.{Store, Rule, Outcomes, state, ending, tick, lower, add}
+use Rattle.source.specs.Rules.{spent, Store, Rule, Outcomes, state, ending, tick, lower, add}
 use Rattle.source.specs.Calls.{sums}
 use Rattle.source_values.specs.Placed.{Reached, _upto_}
-use Rattle.source_values.specs.declared.Early.{Early}
-use Rattle.source_values.specs.declared.Early.the-variants.{Spent, OutOfRange}
 use Rattle.source_values.specs.declared.Value.{Value}
-use Rattle.source_values.specs.declared.Value.the-variants.{Of as OfValue, Ended as EndedValue}
+use Rattle.source_values.specs.declared.Value.the-variants.{Of as OfValue, Spent as SpentValue}
 use Rattle.source_values.specs.declared.Truth.{Truth}
-use Rattle.source_values.specs.declared.Truth.the-variants.{Of as OfTruth, Ended as EndedTruth}
-
-abbrev pub early : Early → Rules.Early
-early Spent = Rules.spent
-early OutOfRange = Rules.out-of-range
+use Rattle.source_values.specs.declared.Truth.the-variants.{Of as OfTruth, Spent as SpentTruth}
 
 -- ---- Expressions
 
@@ -27,7 +20,7 @@ early OutOfRange = Rules.out-of-range
 -- leaves one
 abbrev pub valued : Value → ℕ → ℕ → ℕ → Store → Outcomes (Reached ℤ)
 valued (OfValue z high next) left h mark store = ok (z upto next) (state left (suc h) (max mark (h + high)) store)
-valued (EndedValue e high) left h mark store = ended (early e, ending left (max mark (h + high)) store)
+valued (SpentValue high) left h mark store = ended (spent, ending left (max mark (h + high)) store)
 
 -- With these ticks left before and after it, the expression comes to what the rule says, at any height within the mark
 abbrev pub Evaluates : Value → ℕ → ℕ → Store → Rule (Reached ℤ) → Type 0
@@ -37,7 +30,7 @@ Evaluates r left left′ store rule =
 -- It had no more values than so many, and where it has a value that one
 abbrev pub Within : Value → ℕ → Type 0
 Within (OfValue z high next) most = (1 ≤ high) × (high ≤ most)
-Within (EndedValue e high) most = high ≤ most
+Within (SpentValue high) most = high ≤ most
 
 -- What is done once both sides of a Plus, or of a Less, have their values
 abbrev pub summing : ℤ → ℤ → Rule ℤ
@@ -50,4 +43,4 @@ comparing x y = do tick; lower 2; give (ltZ x y)
 
 abbrev pub tested : Truth → ℕ → ℕ → Store → Outcomes (Reached Bool)
 tested (OfTruth v next) left mark store = ok (v upto next) (state left 0 mark store)
-tested (EndedTruth e) left mark store = ended (early e, ending left mark store)
+tested SpentTruth left mark store = ended (spent, ending left mark store)

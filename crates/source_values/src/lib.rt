@@ -26,32 +26,24 @@ use text_shape::ONE_BYTE_CONSTANT;
 use text_shape::PLUS;
 use text_shape::VARIABLE;
 use text_shape::constant_at;
-use word::Sum;
 
-// Why a run ended that is not done.
-pub enum Early {
-    Spent,
-    OutOfRange,
-}
-
-// What an expression comes to: its value, the most values that it had on the stack, and the position after it; or the
-// end of the run, and the most values until then.
+// What an expression comes to: its value, the most values that it had on the stack, and the position after it; or that
+// the run is spent, and the most values until then.
 pub enum Value {
     Of {
         value: i32,
         high: usize,
         next: usize,
     },
-    Ended {
-        end: Early,
+    Spent {
         high: usize,
     },
 }
 
-// What a condition comes to.
+// What a condition comes to: its truth and the position after it, or that the run is spent.
 pub enum Truth {
     Of { value: bool, next: usize },
-    Ended(Early),
+    Spent,
 }
 
 // The larger of two numbers.
@@ -87,10 +79,7 @@ fn constant(text: &[u8; text::LONGEST], at: usize, left: &mut u32) -> Value
 {
     let constant = constant_at(text, at);
     if *left == 0 {
-        return Value::Ended {
-            end: Early::Spent,
-            high: 0,
-        };
+        return Value::Spent { high: 0 };
     }
     *left = *left - 1;
     Value::Of {
@@ -114,10 +103,7 @@ fn variable(
     ensures { λ r. ⌜ Within r 1 ⌝ }
 {
     if *left == 0 {
-        return Value::Ended {
-            end: Early::Spent,
-            high: 0,
-        };
+        return Value::Spent { high: 0 };
     }
     *left = *left - 1;
     Value::Of {
@@ -127,8 +113,7 @@ fn variable(
     }
 }
 
-// The sum of two values that stood on the stack, and of at most `high` with them: one tick, and the end of the run
-// where it is out of range.
+// The sum of two values that stood on the stack, where at most `high` stood: one tick. A sum past a limit is the limit.
 fn summed(x: i32, y: i32, high: usize, next: usize, left: &mut u32) -> Value
     requires { ⌜ 1 ≤ high ⌝ }
     ensures { λ r. ⌜ ((h mark : ℕ) (m : List ℤ) → valued r (now (left .exit)) h mark m
@@ -136,18 +121,13 @@ fn summed(x: i32, y: i32, high: usize, next: usize, left: &mut u32) -> Value
     ensures { λ r. ⌜ Within r high ⌝ }
 {
     if *left == 0 {
-        return Value::Ended {
-            end: Early::Spent,
-            high,
-        };
+        return Value::Spent { high };
     }
     *left = *left - 1;
-    match word::add(x, y) {
-        Sum::Fits(value) => Value::Of { value, high, next },
-        Sum::Out => Value::Ended {
-            end: Early::OutOfRange,
-            high,
-        },
+    Value::Of {
+        value: word::add(x, y),
+        high,
+        next,
     }
 }
 
@@ -196,14 +176,13 @@ fn plus(
     ensures { λ r. ⌜ Within r nest ⌝ }
 {
     match evaluate(text, at + 1, nest - 1, store, left) {
-        Value::Ended { end, high } => Value::Ended { end, high },
+        Value::Spent { high } => Value::Spent { high },
         Value::Of {
             value: x,
             high: first,
             next: middle,
         } => match evaluate(text, middle, nest - 1, store, left) {
-            Value::Ended { end, high } => Value::Ended {
-                end,
+            Value::Spent { high } => Value::Spent {
                 high: larger(first, high + 1),
             },
             Value::Of {
@@ -247,7 +226,7 @@ fn bc(text: &[u8; text::LONGEST], at: usize, flag: bool, left: &mut u32) -> Trut
     let value = text[at + 1] == 1;
     if value == flag {
         if *left == 0 {
-            return Truth::Ended(Early::Spent);
+            return Truth::Spent;
         }
         *left = *left - 1;
         return Truth::Of {
@@ -266,7 +245,7 @@ fn inverted(t: Truth) -> Truth
     ensures { λ r. ⌜ ((left mark : ℕ) (m : List ℤ) → tested r left mark m ≡ inverse (tested t left mark m)) ⌝ }
 {
     match t {
-        Truth::Ended(end) => Truth::Ended(end),
+        Truth::Spent => Truth::Spent,
         Truth::Of { value, next } => Truth::Of {
             value: !value,
             next,
@@ -280,7 +259,7 @@ fn compared(x: i32, y: i32, next: usize, left: &mut u32) -> Truth
         ≡ up-to next (comparing x y) (state (now (left .entry)) 2 mark m)) ⌝ }
 {
     if *left == 0 {
-        return Truth::Ended(Early::Spent);
+        return Truth::Spent;
     }
     *left = *left - 1;
     Truth::Of {
@@ -306,18 +285,18 @@ fn smaller(
         (state (now (left .entry)) 0 (now (mark .entry)) (now (store .entry)))) ⌝ }
 {
     match evaluate(text, at + 1, nest - 1, store, left) {
-        Value::Ended { end, high } => {
+        Value::Spent { high } => {
             raise(mark, high);
-            Truth::Ended(end)
+            Truth::Spent
         }
         Value::Of {
             value: x,
             high: first,
             next: middle,
         } => match evaluate(text, middle, nest - 1, store, left) {
-            Value::Ended { end, high } => {
+            Value::Spent { high } => {
                 raise(mark, larger(first, high + 1));
-                Truth::Ended(end)
+                Truth::Spent
             }
             Value::Of {
                 value: y,
@@ -355,7 +334,7 @@ pub fn test(
         BC => return bc(text, at, flag, left),
         NOT => return inverted(test(text, at + 1, nest - 1, !flag, store, left, mark, ends)),
         AND => match test(text, at + 1, nest - 1, false, store, left, mark, ends) {
-            Truth::Ended(end) => return Truth::Ended(end),
+            Truth::Spent => return Truth::Spent,
             Truth::Of { value, next } => {
                 if value {
                     return test(text, next, nest - 1, flag, store, left, mark, ends);

@@ -5,15 +5,9 @@ ghost use Prim.Native.Nat.{_+_, _<_, _≤_};
 ghost use lib.ListN.{length};
 ghost use lib.IntN.{negsuc, _+ℤ_, _-ℤ_};
 ghost use lib.Signed.{ltZ};
-ghost use Rattle.word.specs.Sums.{limited};
+ghost use Rattle.word.specs.Sums.{clamped};
 ghost use Rattle.word.specs.Numbers.{number-of, number-at, byte-number, bits-of, bytes-of};
 ghost use Rattle.word.specs.Targets.{target};
-
-// What a sum comes to: a number in range, or out of range.
-pub enum Sum {
-    Fits(i32),
-    Out,
-}
 
 // Where a taken jump leads: a position, or outside the code.
 pub enum Target {
@@ -28,18 +22,18 @@ fn wide_sum(x: i32, y: i32) -> i64
     (x as i64) + (y as i64)
 }
 
-// The sum of two numbers, or that it is out of range.
-pub fn add(x: i32, y: i32) -> Sum
-    ensures { λ r. ⌜ r ≡ limited (x +ℤ y) ⌝ }
+// The sum of two numbers, or the limit that it is past.
+pub fn add(x: i32, y: i32) -> i32
+    ensures { λ r. ⌜ r ≡ clamped (x +ℤ y) ⌝ }
 {
     let s = wide_sum(x, y);
     if s < -2147483648 {
-        return Sum::Out;
+        return -2147483648;
     }
     if 2147483647 < s {
-        return Sum::Out;
+        return 2147483647;
     }
-    Sum::Fits(s as i32)
+    s as i32
 }
 
 // Whether the first number is below the second.

@@ -1,12 +1,13 @@
--- Each end has its word.
+-- Each end has its word, or none.
 use mathlib.Core.Path.{_≡_, refl, ap}
 use mathlib.Core.List.{List}
 use Prim.Native.Nat.{ℕ}
+use native.Mathlib.Omega.{arith}
 use borrow.Author.Needs.{needs}
 use Rattle.base.specs.Code.{end-of}
 use Rattle.base.specs.declared.End.{End}
 use Rattle.print_ascii.specs.Puts.{Puts}
-use Rattle.print_ascii.proofs.Puts.{puts-is}
+use Rattle.print_ascii.proofs.Puts.{puts-is, puts-none}
 use Rattle.print.specs.Printing.{end-text}
 use Rattle.print_lines.proofs.put_end.Statement.{statement}
 use Rattle.print_lines.proofs.put_end.Tie as tie
@@ -29,25 +30,11 @@ put-end-spec =
     (λ c κs. search needs)
     (λ c. search needs)
     (λ c. search needs)
-    (λ c κs. search needs)
     (λ c. search needs)
-    (λ c. search needs)
-    (λ c κs. search needs)
-    (λ c. search needs)
-    (λ c. search needs)
-    (λ c κs. search needs)
-    (λ c. search needs)
-    (λ c. search needs)
-    (λ c κs. search needs)
     (λ c. search needs)
     (λ c. search found)
     (λ c. search needs)
     (λ c. search found)
-    (λ c. search needs)
-    (λ c. search found)
-    (λ c. search needs)
-    (λ c. search found)
-    (λ c. search needs)
-    (λ c. search found)
-    (λ c. search needs)
-    (λ c. search found))
+    (λ c. found (c .enum-told3 .given .1) (puts-none (omega arith)))
+    (λ c. found (c .enum-told4 .given .1) (puts-none (omega arith)))
+    (λ c. found (c .enum-told5 .given .1) (puts-none (omega arith))))

@@ -143,10 +143,10 @@ pub +choice+execute+repeat-spec : {M : Type 1} → statement M
     (λ c. search needs)
     -- returns
     (λ c.
-    let z : In-choice t choice-lts.After-end = search in
+    let z : In-choice t choice-lts.After-enum-told = search in
     let e : In-choice t choice-lts.After-test = search in
     let s : In-choice t choice-lts.Start = search in
-    let stops = truth-told _ _ _ (z .end .given .1) (e .test .ensures) in
+    let stops = truth-told _ _ _ (z .enum-told .given .1) (e .test .ensures) in
     (sym (choice-ended (s .pre .1 .1 .1 .0 .is) (parts t s) _ stops), s .pre .1 .1 .1 .1 .0))
     (λ c. search needs)
     -- part-end-requires
@@ -196,7 +196,7 @@ pub +choice+execute+repeat-spec : {M : Type 1} → statement M
     (λ c. search needs)
     -- returns-3
     (λ c.
-    let z : In-choice t choice-lts.After-end2 = search in
+    let z : In-choice t choice-lts.After-enum-told2 = search in
     let f : In-choice t choice-lts.After-execute2 = search in
     let yes : In-choice t choice-lts.Else1 = search in
     let v : In-choice t choice-lts.After-value = search in
@@ -204,7 +204,7 @@ pub +choice+execute+repeat-spec : {M : Type 1} → statement M
     let s : In-choice t choice-lts.Start = search in
     let w = s .pre .1 .1 .1 .0 .is in
     let chosen = truth-told _ _ _ (v .value .given .1) (e .test .ensures) in
-    let stops = went-told _ _ _ (z .end2 .given .1) (f .execute2 .ensures .0) in
+    let stops = went-told _ _ _ (z .enum-told2 .given .1) (f .execute2 .ensures .0) in
     (sym (first-stops w (parts t s) _ chosen (not-false _ (yes .if1 .left)) stops), f .execute2 .ensures .1))
     (λ c. search needs)
     -- part-end-requires-2
@@ -246,7 +246,7 @@ pub +choice+execute+repeat-spec : {M : Type 1} → statement M
     let s : In-execute t execute-lts.Start = search in
     let w = command-opened _ _ _ (l .loop .inv .read .is) .inside in
     omega (arith, s .pre .1 .0))
-    -- add-t16
+    -- add-t15
     (λ c.
     let l : In-execute t execute-lts.At-loop = search in
     let s : In-execute t execute-lts.Start = search in
@@ -289,13 +289,13 @@ pub +choice+execute+repeat-spec : {M : Type 1} → statement M
     (λ c. search needs)
     -- returns-3
     (λ c.
-    let z : In-execute t execute-lts.After-end = search in
+    let z : In-execute t execute-lts.After-enum-told = search in
     let f : In-execute t execute-lts.After-execute = search in
     let k : In-execute t execute-lts.At-match-keys3 = search in
     let l : In-execute t execute-lts.At-loop = search in
     let i = l .loop .inv in
     let two = sequence-at _ _ _ (i .read .is) (k .match .keys3) in
-    let stops = went-told _ _ _ (z .end .given .1) (f .execute .ensures .0) in
+    let stops = went-told _ _ _ (z .enum-told .given .1) (f .execute .ensures .0) in
     (sym (sequence-ended (i .read .is) two _ stops) ∙ i .same, f .execute .ensures .1))
     (λ c. search needs)
     -- sub-nest
@@ -360,12 +360,12 @@ pub +choice+execute+repeat-spec : {M : Type 1} → statement M
     (λ c. search needs)
     -- returns
     (λ c.
-    let z : In-repeat t repeat-lts.After-end = search in
+    let z : In-repeat t repeat-lts.After-enum-told = search in
     let e : In-repeat t repeat-lts.After-guard = search in
     let l : In-repeat t repeat-lts.At-loop = search in
     let s : In-repeat t repeat-lts.Start = search in
     let i = l .loop .inv in
-    let stops = truth-told _ _ _ (z .end .given .1) (e .guard .ensures) in
+    let stops = truth-told _ _ _ (z .enum-told .given .1) (e .guard .ensures) in
     (sym (while-ended (s .pre .1 .1 .1 .0 .is) (looped t s) _ stops) ∙ i .same, i .long))
     (λ c. search needs)
     -- part-end-requires
@@ -411,7 +411,7 @@ pub +choice+execute+repeat-spec : {M : Type 1} → statement M
     (λ c. search needs)
     -- returns-3
     (λ c.
-    let z : In-repeat t repeat-lts.After-end2 = search in
+    let z : In-repeat t repeat-lts.After-enum-told2 = search in
     let b : In-repeat t repeat-lts.After-execute = search in
     let on : In-repeat t repeat-lts.Else1 = search in
     let v : In-repeat t repeat-lts.After-value = search in
@@ -420,7 +420,7 @@ pub +choice+execute+repeat-spec : {M : Type 1} → statement M
     let s : In-repeat t repeat-lts.Start = search in
     let w = s .pre .1 .1 .1 .0 .is in
     let truth = truth-told _ _ _ (v .value .given .1) (e .guard .ensures) in
-    let stops = went-told _ _ _ (z .end2 .given .1) (b .execute .ensures .0) in (
+    let stops = went-told _ _ _ (z .enum-told2 .given .1) (b .execute .ensures .0) in (
       sym (body-stops w (looped t s) _ truth (not-false _ (on .if1 .left)) stops) ∙ l .loop .inv .same,
       b .execute .ensures .1,
     ))
@@ -428,7 +428,7 @@ pub +choice+execute+repeat-spec : {M : Type 1} → statement M
     -- returns-4
     (λ c.
     let none : In-repeat t repeat-lts.Then2 = search in
-    let z : In-repeat t repeat-lts.After-enum-told = search in
+    let z : In-repeat t repeat-lts.After-enum-told3 = search in
     let b : In-repeat t repeat-lts.After-execute = search in
     let on : In-repeat t repeat-lts.Else1 = search in
     let v : In-repeat t repeat-lts.After-value = search in
@@ -437,7 +437,7 @@ pub +choice+execute+repeat-spec : {M : Type 1} → statement M
     let s : In-repeat t repeat-lts.Start = search in
     let w = s .pre .1 .1 .1 .0 .is in
     let truth = truth-told _ _ _ (v .value .given .1) (e .guard .ensures) in
-    let went-on = went-told _ _ _ (z .enum-told .given .1) (b .execute .ensures .0) in (
+    let went-on = went-told _ _ _ (z .enum-told3 .given .1) (b .execute .ensures .0) in (
       sym (turn-spent w (looped t s) _ truth (not-false _ (on .if1 .left)) went-on (none .if2 .taken))
           ∙ l .loop .inv .same,
       b .execute .ensures .1,
@@ -446,20 +446,20 @@ pub +choice+execute+repeat-spec : {M : Type 1} → statement M
     -- loop-less
     (λ c.
     let some : In-repeat t repeat-lts.Else2 = search in
-    let z : In-repeat t repeat-lts.After-enum-told = search in
+    let z : In-repeat t repeat-lts.After-enum-told3 = search in
     let b : In-repeat t repeat-lts.After-execute = search in
     let v : In-repeat t repeat-lts.After-value = search in
     let e : In-repeat t repeat-lts.After-guard = search in
     let s : In-repeat t repeat-lts.Start = search in
     let truth = truth-told _ _ _ (v .value .given .1) (e .guard .ensures) in
-    let went-on = went-told _ _ _ (z .enum-told .given .1) (b .execute .ensures .0) in
+    let went-on = went-told _ _ _ (z .enum-told3 .given .1) (b .execute .ensures .0) in
     let h = no-higher (s .pre .1 .1 .1 .0 .is) (looped t s) _ truth went-on in
     let more = some .if2 .left in
     omega arith)
     -- loop-again
     (λ c.
     let some : In-repeat t repeat-lts.Else2 = search in
-    let z : In-repeat t repeat-lts.After-enum-told = search in
+    let z : In-repeat t repeat-lts.After-enum-told3 = search in
     let b : In-repeat t repeat-lts.After-execute = search in
     let on : In-repeat t repeat-lts.Else1 = search in
     let v : In-repeat t repeat-lts.After-value = search in
@@ -468,6 +468,6 @@ pub +choice+execute+repeat-spec : {M : Type 1} → statement M
     let s : In-repeat t repeat-lts.Start = search in
     let w = s .pre .1 .1 .1 .0 .is in
     let truth = truth-told _ _ _ (v .value .given .1) (e .guard .ensures) in
-    let went-on = went-told _ _ _ (z .enum-told .given .1) (b .execute .ensures .0) in
+    let went-on = went-told _ _ _ (z .enum-told3 .given .1) (b .execute .ensures .0) in
     let again = turn-again w (looped t s) _ truth (not-false _ (on .if1 .left)) went-on (some .if2 .left) in
     record { long = b .execute .ensures .1; same = sym again ∙ l .loop .inv .same }))

@@ -10,9 +10,8 @@ use Rattle.text.specs.Syntax.{_:=_}
 use Rattle.text.specs.Reading.{expression}
 use Rattle.text.proofs.Opened.{One, command-opened, assignment-at}
 use Rattle.base.specs.Acts.{ended}
-use Rattle.source.specs.Rules.{state, ending}
+use Rattle.source.specs.Rules.{spent, state, ending}
 use Rattle.source_values.specs.Placed.{reaching}
-use Rattle.source_values.specs.Code.{early}
 use Rattle.source_values.proofs.Steps.{value-told, was-read}
 use Rattle.source_commands.specs.Code.{storing}
 use Rattle.source_commands.proofs.Commands.{assign-ended, assign-ok}
@@ -28,19 +27,13 @@ parts s = assignment-at _ _ _ (s .pre .1 .1 .0 .is) (s .pre .0)
 
 returns : tie.Need-returns
 returns c =
-    let z : tie.After-end = search in
+    let z : tie.After-high = search in
     let e : tie.After-right-side = search in
     let s : tie.Start = search in
     let μ = s .args .mark .now in
-    let stops = value-told _ 0 μ _ (z .end .given .1) (e .right-side .ensures 0 μ (omega arith)) in
-    let high : c .raise .last .0 ≡ max μ (0 + z .end .given .0 .1 .0) = omega (arith, c .raise .ensures) in (
-      ap
-          (λ k. ended (
-            early (z .end .given .0 .0),
-            ending (e .right-side .last .1 .1 .1 .1 .0) k
-                (s .args .store .now),
-          ))
-          high
+    let stops = value-told _ 0 μ _ (z .high .given .1) (e .right-side .ensures 0 μ (omega arith)) in
+    let high : c .raise .last .0 ≡ max μ (0 + z .high .given .0 .0) = omega (arith, c .raise .ensures) in (
+      ap (λ k. ended (spent, ending (e .right-side .last .1 .1 .1 .1 .0) k (s .args .store .now))) high
           ∙ sym (assign-ended _ (s .pre .1 .1 .0 .is) (parts s .2) _ stops),
       s .pre .1 .1 .1,
     )

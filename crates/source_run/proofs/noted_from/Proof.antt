@@ -1,5 +1,5 @@
 -- `noted_from` meets its contract, by the budget.
-use mathlib.Core.Path.{_∙_, sym}
+use mathlib.Core.Path.{_∙_}
 use borrow.Author.Needs.{needs}
 use borrow.Author.Tests.{le-leb, lt-leb}
 use Rattle.source_run.proofs.noted_from.Statement.{statement}

@@ -1,9 +1,7 @@
--- `report` meets its contract, by cases: the run is done, or ended early.
-use mathlib.Core.Path.{sym, ap, _∙_}
-use Prim.Native.Nat.{_-_}
+-- `report` meets its contract, by cases: the run is done, or spent.
+use mathlib.Core.Path.{sym, ap}
 use borrow.Author.Needs.{needs}
 use Rattle.base.specs.Answers.{gives}
-use Rattle.base.specs.Ends.{ran}
 use Rattle.source_run.specs.Code.{told}
 use Rattle.source_run.proofs.report.Statement.{statement}
 use Rattle.source_run.proofs.report.Tie as tie
@@ -15,7 +13,6 @@ report-spec =
     (λ c. search needs)
     (λ c. search needs)
     (λ c. search needs)
-    (λ c κs. search needs)
     (λ c. search needs)
     -- returns
     (λ c.
@@ -25,9 +22,7 @@ report-spec =
     sym (ap (λ p. gives (told p (a .budget) (a .left) (a .mark))) (p .enum-told .given .1)))
     -- returns-2
     (λ c.
-    let p : tie.After-progress = search in
-    let e : tie.After-end-of = search in
+    let p : tie.After-enum-told2 = search in
     let s : tie.Start = search in
     let a = s .args in
-    ap (λ e. gives (ran e (a .budget - a .left) (a .mark))) (e .end-of .ensures)
-    ∙ sym (ap (λ p. gives (told p (a .budget) (a .left) (a .mark))) (p .progress .given .1))))
+    sym (ap (λ p. gives (told p (a .budget) (a .left) (a .mark))) (p .enum-told2 .given .1))))

@@ -14,9 +14,9 @@ use Rattle.text.proofs.Opened.{Two, expression-opened, variable-at}
 use Rattle.text.proofs.Opened.{plus-at as sides-of-plus}
 use Rattle.text_shape.proofs.Constants.{constant-read, last-sum, last-constant}
 use Rattle.base.specs.Acts.{ended}
-use Rattle.source.specs.Rules.{state, ending}
+use Rattle.source.specs.Rules.{spent, state, ending}
 use Rattle.source_values.specs.Placed.{reaching}
-use Rattle.source_values.specs.Code.{early, summing}
+use Rattle.source_values.specs.Code.{summing}
 use Rattle.source_values.proofs.Steps.{value-told, was-read, placed-is, within-told, within-more, joined}
 use Rattle.source_values.proofs.Compound.{valuing, plus-does, first-ended, right-read}
 use Rattle.source_values.proofs.Compound.{second-ended, both-ok}
@@ -169,10 +169,10 @@ pub +evaluate+plus-spec : {M : Type 1} → statement M
     (λ c. search needs)
     -- add-larger
     (λ c.
-    let z : In-plus t plus-lts.After-end2 = search in
+    let z : In-plus t plus-lts.After-high2 = search in
     let f : In-plus t plus-lts.After-evaluate2 = search in
     let s : In-plus t plus-lts.Start = search in
-    let most = within-told _ (z .end2 .given .1) (f .evaluate2 .ensures .1) in
+    let most = within-told _ (z .high2 .given .1) (f .evaluate2 .ensures .1) in
     let n = expression-opened _ _ _ (s .pre .1 .1 .1 .is) .nested in
     omega (arith, s .fits .nest .fits))
     (λ c κs. search needs)
@@ -190,37 +190,33 @@ pub +evaluate+plus-spec : {M : Type 1} → statement M
     (λ c κs. let g : In-plus t plus-lts.After-larger2 = search in omega (arith, g .larger2 .ensures))
     -- returns
     (λ c.
-    let z : In-plus t plus-lts.After-end = search in
+    let z : In-plus t plus-lts.After-high = search in
     let e : In-plus t plus-lts.After-evaluate = search in
     let s : In-plus t plus-lts.Start = search in
-    let most = within-told _ (z .end .given .1) (e .evaluate .ensures .1) in (
+    let most = within-told _ (z .high .given .1) (e .evaluate .ensures .1) in (
       λ h μ l.
-          let stops = value-told _ h μ _ (z .end .given .1) (e .evaluate .ensures .0 h μ l) in
+          let stops = value-told _ h μ _ (z .high .given .1) (e .evaluate .ensures .0 h μ l) in
           sym (first-ended valuing summing plus-does (s .pre .1 .1 .1 .is) (sides t s) _ stops),
       omega arith,
     ))
     -- returns-2
     (λ c.
     let g : In-plus t plus-lts.After-larger = search in
-    let z : In-plus t plus-lts.After-end2 = search in
+    let z : In-plus t plus-lts.After-high2 = search in
     let f : In-plus t plus-lts.After-evaluate2 = search in
     let x : In-plus t plus-lts.After-x = search in
     let e : In-plus t plus-lts.After-evaluate = search in
     let s : In-plus t plus-lts.Start = search in
     let some = within-told _ (x .x .given .1) (e .evaluate .ensures .1) in
-    let most = within-told _ (z .end2 .given .1) (f .evaluate2 .ensures .1) in
+    let most = within-told _ (z .high2 .given .1) (f .evaluate2 .ensures .1) in
     let n = expression-opened _ _ _ (s .pre .1 .1 .1 .is) .nested in
     let top = g .larger .ensures in (
       λ h μ l.
           let left = value-told _ h μ _ (x .x .given .1) (e .evaluate .ensures .0 h μ l) in
-          let stops = value-told _ (suc h) _ _ (z .end2 .given .1)
+          let stops = value-told _ (suc h) _ _ (z .high2 .given .1)
           (f .evaluate2 .ensures .0 (suc h) (max μ (h + x .x .given .0 .1 .0)) (omega (arith, some .0))) in
-          ap (λ k. ended (
-            early (z .end2 .given .0 .0),
-            ending (f .evaluate2 .last .1 .1 .1 .1 .0) k
-                (s .args .store .now),
-          ))
-          (joined h μ (x .x .given .0 .1 .0) (z .end2 .given .0 .1 .0) top)
+          ap (λ k. ended (spent, ending (f .evaluate2 .last .1 .1 .1 .1 .0) k (s .args .store .now)))
+          (joined h μ (x .x .given .0 .1 .0) (z .high2 .given .0 .0) top)
           ∙ sym (second-ended valuing summing plus-does (s .pre .1 .1 .1 .is) (sides t s) _ left stops),
       omega (arith, some .1),
     ))

@@ -114,11 +114,11 @@ pub +test-spec : {M : Type 1} → statement M
     (λ c. search needs)
     -- returns-3
     (λ c.
-    let z : In-test t test-lts.After-end = search in
+    let z : In-test t test-lts.After-enum-told = search in
     let e : In-test t test-lts.After-test2 = search in
     let k : In-test t test-lts.At-match-keys3 = search in
     let s : In-test t test-lts.Start = search in
-    let stops = truth-told _ _ _ (z .end .given .1) (e .test2 .ensures) in
+    let stops = truth-told _ _ _ (z .enum-told .given .1) (e .test2 .ensures) in
     sym (and-ended (s .args .flag) (s .pre .1 .1 .0 .is) (sides t s (k .match .keys3)) _ stops))
     (λ c. search needs)
     -- sub-test-3

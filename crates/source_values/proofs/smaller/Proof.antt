@@ -10,9 +10,9 @@ use Rattle.text.specs.Syntax.{Less}
 use Rattle.text.specs.Reading.{expression}
 use Rattle.text.proofs.Opened.{Two, condition-opened, less-at}
 use Rattle.base.specs.Acts.{ended}
-use Rattle.source.specs.Rules.{state, ending}
+use Rattle.source.specs.Rules.{spent, state, ending}
 use Rattle.source_values.specs.Placed.{reaching}
-use Rattle.source_values.specs.Code.{early, comparing}
+use Rattle.source_values.specs.Code.{comparing}
 use Rattle.source_values.proofs.Steps.{value-told, was-read, within-told}
 use Rattle.source_values.proofs.Compound.{under, less-does, first-ended, right-read, second-ended}
 use Rattle.source_values.proofs.Compound.{both-ok}
@@ -26,35 +26,33 @@ sides s = less-at _ _ _ (s .pre .1 .1 .is) (s .pre .0)
 
 returns : tie.Need-returns
 returns c flag =
-    let z : tie.After-end = search in
+    let z : tie.After-high = search in
     let e : tie.After-evaluate = search in
     let s : tie.Start = search in
     let μ = s .args .mark .now in
-    let stops = value-told _ 0 μ _ (z .end .given .1) (e .evaluate .ensures .0 0 μ (omega arith)) in
-    let high : c .raise .last .0 ≡ max μ (0 + z .end .given .0 .1 .0) = omega (arith, c .raise .ensures) in
-    ap (λ k. ended (early (z .end .given .0 .0), ending (e .evaluate .last .1 .1 .1 .1 .0) k (s .args .store .now)))
-    high
+    let stops = value-told _ 0 μ _ (z .high .given .1) (e .evaluate .ensures .0 0 μ (omega arith)) in
+    let high : c .raise .last .0 ≡ max μ (0 + z .high .given .0 .0) = omega (arith, c .raise .ensures) in
+    ap (λ k. ended (spent, ending (e .evaluate .last .1 .1 .1 .1 .0) k (s .args .store .now))) high
     ∙ sym (first-ended (under flag) comparing (less-does flag) (s .pre .1 .1 .is) (sides s) _ stops)
 
 returns-2 : tie.Need-returns-2
 returns-2 c flag =
     let g : tie.After-larger = search in
-    let z : tie.After-end2 = search in
+    let z : tie.After-high2 = search in
     let f : tie.After-evaluate2 = search in
     let x : tie.After-x = search in
     let e : tie.After-evaluate = search in
     let s : tie.Start = search in
     let μ = s .args .mark .now in
     let a = x .x .given .0 .1 .0 in
-    let b = z .end2 .given .0 .1 .0 in
+    let b = z .high2 .given .0 .0 in
     let some = within-told _ (x .x .given .1) (e .evaluate .ensures .1) in
     let left = value-told _ 0 μ _ (x .x .given .1) (e .evaluate .ensures .0 0 μ (omega arith)) in
-    let stops = value-told _ 1 _ _ (z .end2 .given .1)
+    let stops = value-told _ 1 _ _ (z .high2 .given .1)
     (f .evaluate2 .ensures .0 1 (max μ (0 + a)) (omega (arith, some .0))) in
     let high : c .raise2 .last .0 ≡ max (max μ (0 + a)) (1 + b) =
     omega (arith, c .raise2 .ensures, g .larger .ensures) in
-    ap (λ k. ended (early (z .end2 .given .0 .0), ending (f .evaluate2 .last .1 .1 .1 .1 .0) k (s .args .store .now)))
-    high
+    ap (λ k. ended (spent, ending (f .evaluate2 .last .1 .1 .1 .1 .0) k (s .args .store .now))) high
     ∙ sym (second-ended (under flag) comparing (less-does flag) (s .pre .1 .1 .is) (sides s) _ left stops)
 
 returns-3 : tie.Need-returns-3
@@ -113,10 +111,10 @@ smaller-spec =
     (λ c. search needs)
     -- add-larger
     (λ c.
-    let z : tie.After-end2 = search in
+    let z : tie.After-high2 = search in
     let f : tie.After-evaluate2 = search in
     let s : tie.Start = search in
-    let most = within-told _ (z .end2 .given .1) (f .evaluate2 .ensures .1) in
+    let most = within-told _ (z .high2 .given .1) (f .evaluate2 .ensures .1) in
     let n = condition-opened _ _ _ (s .pre .1 .1 .is) .nested in
     omega (arith, s .fits .nest .fits))
     (λ c κs. search needs)

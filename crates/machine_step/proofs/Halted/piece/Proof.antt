@@ -10,7 +10,7 @@ use Rattle.base.specs.Answers.{gives}
 use Rattle.base.specs.Ends.{ran}
 use Rattle.base.specs.Code.{end-of}
 use Rattle.base.specs.declared.End.{End}
-use Rattle.base.specs.declared.End.the-variants.{Done, Spent, OutOfRange, Short, Full, Astray}
+use Rattle.base.specs.declared.End.the-variants.{Done, Spent, Short, Full, Astray}
 use Rattle.base.proofs.End.{the-type}
 use Rattle.machine.specs.Machine as Rules
 use Rattle.machine.specs.Calls.{finished, tell}
@@ -23,7 +23,6 @@ told-end : (e : End) (k mark : ℕ) (s : Rules.Machine (List ℤ)) → (e ≡ Sp
 unfolding tell
 told-end Done k mark s h = refl
 told-end Spent k mark s h = absurd (h refl)
-told-end OutOfRange k mark s h = refl
 told-end Short k mark s h = refl
 told-end Full k mark s h = refl
 told-end Astray k mark s h = refl
@@ -37,7 +36,7 @@ paused c memory =
 
 -- the ends but Spent, by their places in the enum
 abbrev others : List ℕ
-others = 0 ∷ 2 ∷ 3 ∷ 4 ∷ 5 ∷ []
+others = 0 ∷ 2 ∷ 3 ∷ 4 ∷ []
 
 ended : tie.Need-returns-2
 ended c memory =

@@ -1,13 +1,13 @@
--- ADD: short, the sum in the second value's place, or out of range.
+-- ADD: short, or the sum in the second value's place.
 use mathlib.Core.List.{List}
 use Prim.Native.Nat.{_-_}
 use borrow.Author.Needs.{needs}
 use lib.IntN.{ℤ}
 use mir.Syntax.{w32}
 use mir.Val.{toZ, ofZ}
-use mir.Facts.{toZ-ofZ}
+use Rattle.word.proofs.Laws.{read-back}
 use Rattle.machine_step.specs.Steps.{Lent, Named}
-use Rattle.machine_step.proofs.Doing.{Place, summed, add-stops, add-pushed, add-leaves-range}
+use Rattle.machine_step.proofs.Doing.{Place, summed, add-stops, add-pushed}
 use Rattle.machine_step.proofs.Layouts.{peeked, poked, place}
 use Rattle.machine_step.proofs.Machine.add.Statement.{statement}
 use Rattle.machine_step.proofs.Machine.add.Tie as tie
@@ -25,7 +25,6 @@ short c store =
 pushed : tie.Need-returns-2
 pushed c store =
     let put : tie.After-poke = search in
-    let fits : tie.After-known-told = search in
     let sum : tie.After-add = search in
     let y : tie.After-peek2 = search in
     let x : tie.After-peek = search in
@@ -33,27 +32,11 @@ pushed c store =
     let s : tie.Start = search in
     let l = s .args .limits in
     let lent = s .args .lent .now in
-    let z = fits .before .z .given in
     add-pushed (here s store) (c .moves .ensures)
-    (poked l store lent (s .args .self .size - 2) (toZ w32 (ofZ w32 (z .0 .0))) (put .poke .ensures))
-    (toZ-ofZ {w = w32} {z = z .0 .0} (record { sfits = fits .known-told .given .0 .1 }))
+    (poked l store lent (s .args .self .size - 2) (toZ w32 (ofZ w32 (sum .add .result))) (put .poke .ensures))
     (test .if1 .left) (s .pre .marked)
-    (summed (here s store) (sum .add .ensures) (peeked l store lent _ (x .peek .ok) (x .peek .ensures))
-    (peeked l store lent _ (y .peek2 .ok) (y .peek2 .ensures)) (z .1))
-
-out : tie.Need-returns-3
-out c store =
-    let told : tie.After-enum-told = search in
-    let sum : tie.After-add = search in
-    let y : tie.After-peek2 = search in
-    let x : tie.After-peek = search in
-    let test : tie.Else1 = search in
-    let s : tie.Start = search in
-    let l = s .args .limits in
-    let lent = s .args .lent .now in
-    add-leaves-range (here s store) (c .stops2 .ensures) (test .if1 .left) (s .pre .marked)
-    (summed (here s store) (sum .add .ensures) (peeked l store lent _ (x .peek .ok) (x .peek .ensures))
-    (peeked l store lent _ (y .peek2 .ok) (y .peek2 .ensures)) (told .enum-told .given .1))
+    (summed (here s store) (read-back w32 (sum .add .ok) (sum .add .ensures))
+    (peeked l store lent _ (x .peek .ok) (x .peek .ensures)) (peeked l store lent _ (y .peek2 .ok) (y .peek2 .ensures)))
 
 pub add-spec : {M : Type 1} → statement M
 add-spec =
@@ -65,14 +48,9 @@ add-spec =
     (λ c. search needs)
     (λ c κs. search needs)
     (λ c κs. search needs)
-    (λ c. search needs)
     (λ c κs. search needs)
     (λ c. search needs)
     (λ c. search needs)
     (λ c κs. search needs)
     (λ c. search needs)
-    (λ c κs. search needs)
-    (λ c. search needs)
-    pushed
-    (λ c. search needs)
-    out)
+    pushed)
