@@ -9,7 +9,6 @@ use lib.Dec.{ltb}
 use lib.IntN.{ℤ}
 use lib.ListN.{length}
 use lib.Signed.{ltZ}
-use borrow.Author.Tests.{eq-eqb}
 use Rattle.base.specs.Acts.{Outcome, ok, ended, Act, then′, if_then_else_}
 use Rattle.base.specs.Ends.{Fault, End, fault, Result, result}
 use Rattle.word.specs.Sums.{Sum, fits, out, SumRule, stopping, holding, stopping-at, Extends}
@@ -115,8 +114,8 @@ module _ {M Name : Type 0} (D : ℕ) (o : Memory M Name) (code : List (Record Na
   stopped n μ s e =
       let k = run stopping D o code n μ s .left in
       ap (λ (r : Result (Machine M)). r .end)
-      (alike stopping (stopping-at k) (λ m. m ≡ k) (same-within .held-but-at k) (λ m x y l. simp (eq-eqb m k l))
-      D o code n μ s (λ _. refl)) ∙ e
+      (alike stopping (stopping-at k) (λ m. m ≡ k) (same-within .held-but-at k) (same-within .stopped-at k) D o code
+      n μ s (λ _. refl)) ∙ e
 
   pub agreed : Agreed D o code
   agreed n μ s no-sum =

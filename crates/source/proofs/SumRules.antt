@@ -6,7 +6,6 @@ use Prim.Native.Nat.{ℕ, zero, suc}
 use native.Mathlib.Omega.{arith}
 use mathlib.Core.Bool.{Bool, true, false, not}
 use lib.IntN.{ℤ}
-use borrow.Author.Tests.{eq-eqb}
 use Rattle.base.specs.Acts.{ok, ended, then′, if_then_else_}
 use Rattle.word.specs.Sums.{Sum, fits, out, SumRule, stopping, holding, stopping-at, Extends}
 use Rattle.word.proofs.Claims.{same-within}
@@ -121,10 +120,6 @@ agreed-by S H same c s h =
 
 -- ---- The stopping rule, and one that stops at one tick
 
--- At that tick the two are the same.
-at-tick : (k n : ℕ) (x y : ℤ) → n ≡ k → stopping-at k n x y ≡ stopping n x y
-at-tick k n x y e = simp (eq-eqb n k e)
-
 -- Whether an outcome is the end out of range: 1, or 0
 is-out : {A : Type 0} → Outcomes A → ℕ
 is-out (ok a s) = 0
@@ -133,7 +128,8 @@ is-out (ended (Early.out-of-range, s)) = 1
 
 module _ (c : Command) (s : Store) (n : ℕ) where
   both : (k : ℕ) → Agree (λ m. m ≡ k) (exec stopping c (start n s)) (exec (stopping-at k) c (start n s))
-  both k = exec-agree stopping (stopping-at k) (λ m. m ≡ k) (same-within .held-but-at k) (at-tick k) c (start n s)
+  both k = exec-agree stopping (stopping-at k) (λ m. m ≡ k) (same-within .held-but-at k)
+      (same-within .stopped-at k) c (start n s)
 
   -- where that rule stops, the stopping rule has stopped there or before
   stopped : (k : ℕ) (u : Ending) (r r′ : Outcomes (Unit {0})) → Agree (λ m. m ≡ k) r r′
@@ -143,7 +139,7 @@ module _ (c : Command) (s : Store) (n : ℕ) where
   stopped k u (ended (Early.spent, t)) r′ h e = absurd (omega (arith, ap is-out (sym h ∙ e)))
   stopped k u (ended (Early.out-of-range, t)) r′ h e = (t, refl)
 
-  pub stops-where : ((k : ℕ) × BringsPast c s n k)
+  stops-where : ((k : ℕ) × BringsPast c s n k)
       ↔ ((u : Ending) × (exec stopping c (start n s) ≡ ended (Early.out-of-range, u)))
   stops-where = (
     λ (k, (u, e)). stopped k u _ _ (both k) e,

@@ -7,6 +7,7 @@ use native.Mathlib.Omega.{arith}
 use lib.IntN.{ℤ, pos, negsuc, _+ℤ_}
 use lib.Dec.{eqb}
 use lib.Signed.{ltZ}
+use borrow.Author.Tests.{eq-eqb}
 use mir.Syntax.{w8, w32}
 use mir.Val.{toZ, ofZ}
 use mir.Facts.{toZ-ofZ, ofZ-toZ, fits-ofZ, sfits-toZ}
@@ -59,6 +60,7 @@ unfolding stopping limited clamped holding
 same-within = record {
   held = same;
   held-but-at = λ k n x y z e. either (eqb n k) (stopping n x y) (holding n x y) z e (same n x y z e);
+  stopped-at = λ k n x y e. simp (eq-eqb n k e);
 }
   where
     same : (n : ℕ) (x y z : ℤ) → stopping n x y ≡ fits z → holding n x y ≡ fits z

@@ -28,10 +28,12 @@ pub record HeldSum (left : ℕ) (x y : ℤ) : Type 0 where
 abbrev pub Held : Type 0
 Held = (left : ℕ) (x y : ℤ) → HeldSum left x y
 
--- Both rules give the same wherever a sum stays within the limits; so does the one that stops at one tick.
+-- Both rules give the same wherever a sum stays within the limits; so does the one that stops at one tick, which at
+-- that tick is the stopping rule.
 pub record SameWithin : Type 0 where
   pub held : Extends stopping holding
   pub held-but-at : (k : ℕ) → Extends stopping (stopping-at k)
+  pub stopped-at : (k n : ℕ) (x y : ℤ) → n ≡ k → stopping-at k n x y ≡ stopping n x y
 
 -- Neither rule looks at the ticks left.
 pub record SteadySums : Type 0 where
