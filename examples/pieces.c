@@ -2,20 +2,15 @@
  * profile, loads a store of zeros, runs the first piece, and goes on with each other from where the one before paused.
  * The pod's library has no call that runs: the probes, which are for tests, stand in for it here.
  *
- *     pieces FILE BUDGET [BUDGET | carry]...
+ *     pieces FILE BUDGET...
  *
  * Prints the sizes; for each piece its budget, end, count and mark, where it is spent the position and the stack size
  * that it pauses with, and the variables as they then are; at the end each named variable and its value. A piece that
- * is not spent is the last, and no word after it does anything. The word `carry` carries the paused run over to the
- * rule by which sums hold, which changes nothing but its record: a line says `carried` and the count, and so does the
- * line of each later pause. It has to stand after the first budget. Exit status 0.
- *
- * A call that declines, as a second `carry` is, prints `refused`, the number, `at` and the place; exit status 1. A file
- * that cannot be read, or a word that is no budget where one has to stand, is named on standard error; exit status 2.
+ * is not spent is the last. Exit status 0. A call that declines prints `refused`, the number, `at` and the place; exit
+ * status 1. A file that cannot be read or a word that is no budget is named on standard error; exit status 2.
  */
 #include <stdio.h>
 #include <stdlib.h>
-#include <string.h>
 
 #include "profile.h"
 
@@ -26,14 +21,11 @@ uint64_t probe_run_machine(const uint8_t *code, size_t code_length, int32_t *mem
                            uint64_t depth, uint64_t cells, uint32_t budget, uint32_t *state, size_t state_length);
 uint64_t probe_go_on(const uint8_t *code, size_t code_length, int32_t *memory, size_t memory_length, uint64_t depth,
                      uint64_t cells, uint32_t *state, size_t state_length, uint32_t budget);
-uint64_t probe_carry(const uint8_t *code, size_t code_length, const int32_t *memory, size_t memory_length,
-                     uint64_t depth, uint64_t cells, uint32_t *state, size_t state_length);
 uint64_t probe_read_back(const uint8_t *table, size_t table_length, const int32_t *memory, size_t memory_length,
                          uint64_t depth, int32_t *store, size_t store_length);
 
-/* The words of a state: the fifth is 1 where it was carried, 0 where not, the sixth the count at which it was, and the
- * last is not used yet. */
-enum { POSITION, STACK_SIZE, COUNT, MARK, WAS_CARRIED, CARRIED_AT, WORDS = 7 };
+/* Of a state's seven words the first four are position, stack size, count and mark; the rest are not used yet. */
+enum { POSITION, STACK_SIZE, WORDS = 7 };
 enum { SPENT = 1 };
 /* By their numbers; no run has the end of number 2, since sums hold at the limits. */
 static const char *const ends[] = {"done", "spent", "never", "short", "full", "astray"};
@@ -74,11 +66,6 @@ static uint64_t next_piece(struct machine *m, uint32_t budget)
                        budget);
 }
 
-static uint64_t carry(struct machine *m)
-{
-    return probe_carry(m->code, m->code_length, m->memory, m->memory_length, m->depth, m->cells, m->state, WORDS);
-}
-
 static uint64_t read_back(struct machine *m)
 {
     return probe_read_back(m->table, PROFILE_VARIABLES, m->memory, m->memory_length, m->depth, m->store,
@@ -101,11 +88,8 @@ static void print_piece(const struct machine *m, uint32_t budget, uint64_t answe
 {
     printf("piece %u %s %u", (unsigned)budget, ends[run_end(answer)], run_count(answer));
     printf(" mark %u", run_mark(answer));
-    if (run_end(answer) == SPENT) {
+    if (run_end(answer) == SPENT)
         printf(" position %u stack %u", (unsigned)m->state[POSITION], (unsigned)m->state[STACK_SIZE]);
-        if (m->state[WAS_CARRIED])
-            printf(" carried %u", (unsigned)m->state[CARRIED_AT]);
-    }
     print_variables(m, " x", "");
     putchar('\n');
 }
@@ -125,18 +109,9 @@ static int64_t budget_of(const char *word)
     return is_one ? (int64_t)number : -1;
 }
 
-static int is_carry(const char *word) { return strcmp(word, "carry") == 0; }
-
-static int run(struct machine *m, char **words, int count)
+static int run(struct machine *m, char **words, int pieces)
 {
-    for (int i = 0; i < count; i++) {
-        if (is_carry(words[i])) {
-            uint64_t answer = carry(m);
-            if (profile_refusal(answer) != PROFILE_ACCEPTED)
-                return refused(answer);
-            printf("carried %u\n", (unsigned)m->state[CARRIED_AT]);
-            continue;
-        }
+    for (int i = 0; i < pieces; i++) {
         uint32_t budget = (uint32_t)budget_of(words[i]);
         uint64_t answer = i == 0 ? first_piece(m, budget) : next_piece(m, budget);
         if (profile_refusal(answer) != PROFILE_ACCEPTED)
@@ -171,11 +146,11 @@ int main(int count, char **words)
     static struct machine machine;
 
     if (count < 3) {
-        fputs("usage: pieces FILE BUDGET [BUDGET | carry]...\n", stderr);
+        fputs("usage: pieces FILE BUDGET...\n", stderr);
         return 2;
     }
     for (int i = 2; i < count; i++)
-        if (budget_of(words[i]) < 0 && (i == 2 || !is_carry(words[i]))) {
+        if (budget_of(words[i]) < 0) {
             fprintf(stderr, "%s: no budget\n", words[i]);
             return 2;
         }

@@ -54,8 +54,7 @@ enum profile_refusal_number {
     PROFILE_BAD_TABLE = 12,      /* the table's nonzero entries are not 1 to n, once each */
     PROFILE_NO_HEIGHTS = 13,     /* an inspection: the stack has no heights; not given by these three calls */
     PROFILE_NOT_PAIRED = 14,     /* the table's n and the code's addresses disagree; not given by these three calls */
-    PROFILE_BAD_STATE = 15,      /* a paused run's state does not fit; not given by these three calls */
-    PROFILE_CARRIED = 16         /* a paused run's state was carried before; not given by these three calls */
+    PROFILE_BAD_STATE = 15       /* a paused run's state does not fit; not given by these three calls */
 };
 
 /* A text is one command of at most PROFILE_TEXT_BYTES bytes. The first byte of each construct; v is a variable's byte,

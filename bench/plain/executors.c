@@ -160,9 +160,9 @@ static inline bool known(const uint8_t *record, uint64_t n)
     }
 }
 
-/* What a call that takes a state of seven words refuses, 9, 10, 11 or 15, packed as the probes do it; else 0. */
-static inline uint64_t refusal(const uint8_t *code, size_t length, size_t memory_length, uint64_t depth, uint64_t cells,
-                               const uint32_t *words, uint32_t budget)
+/* Goes on from a state of seven words, which a spent run writes; refuses 9, 10, 11, 15, packed as the probes do it. */
+uint64_t plain_go_on(const uint8_t *code, size_t length, int32_t *memory, size_t memory_length, uint64_t depth,
+                     uint64_t cells, uint32_t *words, size_t words_length, uint32_t budget)
 {
     if (length % 5 != 0 || length / 5 > 4096)
         return 9;
@@ -171,48 +171,18 @@ static inline uint64_t refusal(const uint8_t *code, size_t length, size_t memory
             return 10 | (uint64_t)i << 8;
     if (depth > 64 || cells > 64 || memory_length != depth + 1 + cells)
         return 11;
-    if (words[0] > length / 5 || words[1] > words[3] || words[3] > depth || words[2] + (uint64_t)budget > UINT32_MAX)
-        return 15;
-    return 0;
-}
-
-/* Goes on from such a state, which a spent run writes, and keeps its record in words 5 and 6. */
-uint64_t plain_go_on(const uint8_t *code, size_t length, int32_t *memory, size_t memory_length, uint64_t depth,
-                     uint64_t cells, uint32_t *words, size_t words_length, uint32_t budget)
-{
-    uint64_t refused = refusal(code, length, memory_length, depth, cells, words, budget);
-    (void)words_length;
-    if (refused)
-        return refused;
     struct state from = {words[0], words[1], words[3], words[2], DONE};
+    if (words[0] > length / 5 || words[1] > words[3] || words[3] > depth || from.count + (uint64_t)budget > UINT32_MAX)
+        return 15;
     int32_t *middle = memory + depth;
     uint32_t limit = from.count + budget;
     struct state state = run(0x50, code, length, middle - 1, -1, middle, (ptrdiff_t)depth, from, limit);
     if (state.end == SPENT) {
+        memset(words, 0, 4 * words_length);
         words[0] = (uint32_t)state.position;
         words[1] = (uint32_t)state.size;
         words[2] = state.count;
         words[3] = (uint32_t)state.mark;
-        words[4] = words[4] != 0;
-        words[5] = words[4] ? words[5] : 0;
-        words[6] = 0;
     }
     return packed(state);
-}
-
-/* Carries such a state over; refuses 16 too. */
-uint64_t plain_carry(const uint8_t *code, size_t length, const int32_t *memory, size_t memory_length, uint64_t depth,
-                     uint64_t cells, uint32_t *words, size_t words_length)
-{
-    uint64_t refused = refusal(code, length, memory_length, depth, cells, words, 0);
-    (void)memory;
-    (void)words_length;
-    if (refused)
-        return refused;
-    if (words[4])
-        return 16;
-    words[4] = 1;
-    words[5] = words[2];
-    words[6] = 0;
-    return 0;
 }

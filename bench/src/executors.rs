@@ -152,32 +152,19 @@ pub fn run_assembly(code: &[u8], store: &mut [i32], stack: &mut [i32], budget: u
     packed(run(0x40, code, &mut Assembly { store, stack }, depth, State::default(), budget))
 }
 
-/// A state's words: position, stack size, count, mark, whether it was carried over, the count at which it was, and one
-/// that is written 0.
+/// A state's words: position, stack size, count, mark, and three that are written 0.
 pub type Words = [u32; 7];
 
-/// What was recorded of a state.
-#[inline(always)]
-fn carried(words: &Words) -> Option<u32> {
-    (words[4] != 0).then_some(words[5])
-}
-
-#[inline(always)]
-fn words(state: &State, carried: Option<u32>) -> Words {
-    let State { position, size, count, mark } = *state;
-    [position as u32, size as u32, count, mark as u32, carried.is_some().into(), carried.unwrap_or(0), 0]
-}
-
-/// The state that a call goes on from, and the count at which it is spent; or 9, 10, 11, 15.
-#[inline(always)]
-fn taken(
+/// Goes on from a state, which a spent run writes; refuses 9, 10, 11, 15.
+#[inline(never)]
+pub fn go_on(
     code: &[u8],
-    memory: &[i32],
+    memory: &mut [i32],
     depth: usize,
     cells: usize,
-    words: &Words,
+    words: &mut Words,
     budget: u32,
-) -> Result<(State, u32), Refusal> {
+) -> Result<u64, Refusal> {
     compiler::whole(code)?;
     compiler::known(code, cells)?;
     if depth > 64 || cells > 64 || memory.len() != depth + 1 + cells {
@@ -188,34 +175,9 @@ fn taken(
     if from.position > code.len() / 5 || from.size > from.mark || from.mark > depth {
         return Err(Refusal(15, 0));
     }
-    Ok((from, limit))
-}
-
-/// Goes on from a state, which a spent run writes; refuses 9, 10, 11, 15.
-#[inline(never)]
-pub fn go_on(
-    code: &[u8],
-    memory: &mut [i32],
-    depth: usize,
-    cells: usize,
-    lent: &mut Words,
-    budget: u32,
-) -> Result<u64, Refusal> {
-    let (from, limit) = taken(code, memory, depth, cells, lent, budget)?;
     let (end, state) = run(0x50, code, &mut Cells { cells: memory, depth }, depth, from, limit);
     if let End::Spent = end {
-        *lent = words(&state, carried(lent));
+        *words = [state.position as u32, state.size as u32, state.count, state.mark as u32, 0, 0, 0];
     }
     Ok(packed((end, state)))
-}
-
-/// Carries a state over; refuses 9, 10, 11, 15, 16.
-#[inline(never)]
-pub fn carry(code: &[u8], memory: &[i32], depth: usize, cells: usize, lent: &mut Words) -> Result<(), Refusal> {
-    let (from, _) = taken(code, memory, depth, cells, lent, 0)?;
-    if carried(lent).is_some() {
-        return Err(Refusal(16, 0));
-    }
-    *lent = words(&from, Some(from.count));
-    Ok(())
 }

@@ -1,4 +1,4 @@
-//! Runs in pieces, each going on from the state that the one before handed out; and such a state carried over.
+//! Runs in pieces, each going on from the state that the one before handed out.
 
 use std::hint::black_box;
 
@@ -10,9 +10,8 @@ use crate::texts::Text;
 use crate::timing::{heading, medians, repeat, row};
 use crate::translations::compiled;
 
-/// The proved calls and the plain C ones have the same shapes.
+/// The proved call and the plain C one have the same shape.
 type GoOn = unsafe extern "C" fn(*const u8, usize, *mut i32, usize, u64, u64, *mut u32, usize, u32) -> u64;
-type Carry = unsafe extern "C" fn(*const u8, usize, *const i32, usize, u64, u64, *mut u32, usize) -> u64;
 
 extern "C" {
     fn plain_go_on(
@@ -25,16 +24,6 @@ extern "C" {
         state: *mut u32,
         state_len: usize,
         budget: u32,
-    ) -> u64;
-    fn plain_carry(
-        code: *const u8,
-        code_len: usize,
-        memory: *const i32,
-        memory_len: usize,
-        depth: u64,
-        cells: u64,
-        state: *mut u32,
-        state_len: usize,
     ) -> u64;
 }
 
@@ -66,13 +55,6 @@ impl Machine<'_> {
         let (memory_at, state_at) = (memory.as_mut_ptr(), state.as_mut_ptr());
         unsafe { go_on(code.as_ptr(), code.len(), memory_at, memory.len(), depth, cells, state_at, 7, budget) }
     }
-
-    #[inline(always)]
-    fn carry(&mut self, carry: Carry) -> u64 {
-        let (code, memory, state) = (black_box(self.code), &self.memory, &mut self.state);
-        let (depth, cells) = (self.depth as u64, self.cells as u64);
-        unsafe { carry(code.as_ptr(), code.len(), memory.as_ptr(), memory.len(), depth, cells, state.as_mut_ptr(), 7) }
-    }
 }
 
 /// Each gives the packed answer.
@@ -102,7 +84,7 @@ fn run_whole(machine: &mut Machine, records: u32) {
     machine.clear();
     let (depth, cells) = (machine.depth as u64, machine.cells as u64);
     let answer = Libraries.start(machine.code, &mut machine.memory, depth, cells, records);
-    let Ok((_, Some(State { position, size, count, mark, .. }))) = answer else { panic!("{answer:?}") };
+    let Ok((_, Some(State { position, size, count, mark }))) = answer else { panic!("{answer:?}") };
     machine.state = [position, size, count, mark, 0, 0, 0];
 }
 
@@ -122,47 +104,27 @@ pub fn loops(loops: &[Text], records: u32, piece: u32) {
     }
 }
 
-/// Seconds for a call on a fresh machine: the proved one, plain Rust's and plain C's.
-fn one_call(
-    machine: &Machine,
-    proved: impl Fn(&mut Machine) -> u64,
-    rust: impl Fn(&mut Machine) -> u64,
-    c: impl Fn(&mut Machine) -> u64,
-) -> [f64; 3] {
+/// Seconds for a piece from a fresh machine: by the proved call, by plain Rust and by plain C.
+fn one_piece(machine: &Machine, budget: u32) -> [f64; 3] {
     let calls = 2_000_000 / (20 + machine.code.len() as u32 / 5);
     let fresh = |machine: &mut Machine| machine.state = black_box([0; 7]);
     let [mut by_proved, mut by_rust, mut by_c] = [0; 3].map(|_| machine.clone());
     let times = medians([
         &mut repeat(calls, || {
             fresh(&mut by_proved);
-            black_box(proved(&mut by_proved));
+            black_box(proved(&mut by_proved, budget));
         }),
         &mut repeat(calls, || {
             fresh(&mut by_rust);
-            black_box(rust(&mut by_rust));
+            black_box(rust(&mut by_rust, budget));
         }),
         &mut repeat(calls, || {
             fresh(&mut by_c);
-            black_box(c(&mut by_c));
+            black_box(c(&mut by_c, budget));
         }),
     ]);
     assert_eq!((&by_proved, &by_proved), (&by_rust, &by_c));
     times.map(|seconds| seconds / calls as f64)
-}
-
-/// A piece of so many records.
-fn one_piece(machine: &Machine, budget: u32) -> [f64; 3] {
-    one_call(machine, |m| proved(m, budget), |m| rust(m, budget), |m| c(m, budget))
-}
-
-/// The state carried over.
-fn carried(machine: &Machine) -> [f64; 3] {
-    let rust = |m: &mut Machine| {
-        let Machine { code, memory, depth, cells, state } = m;
-        executors::carry(black_box(code), memory, *depth, *cells, state).unwrap();
-        0
-    };
-    one_call(machine, |m| m.carry(exported::probe_carry), rust, |m| m.carry(plain_carry))
 }
 
 /// A value stored, over and over, as long as code may be.
@@ -170,13 +132,13 @@ fn longest() -> Vec<u8> {
     [0x50, 7, 0, 0, 0, 0x53, 1, 0, 0, 0].repeat(2048)
 }
 
-/// What one call takes, on codes of which the last is the longest. The first and the last tell the two parts of it.
-fn of_codes(name: &str, codes: &[(Vec<u8>, usize, usize)], call: impl Fn(&Machine) -> [f64; 3]) {
-    heading(&format!("{name}, ns per call"), &["plain Rust", "plain C"], "");
+/// What one piece takes, on codes of which the last is the longest. The first and the last tell the two parts of it.
+fn of_codes(codes: &[(Vec<u8>, usize, usize)], budget: u32) {
+    heading(&format!("one piece of {budget}, ns per call"), &["plain Rust", "plain C"], "");
     let times: Vec<_> = codes
         .iter()
         .map(|(code, depth, cells)| {
-            let times = call(&Machine::new(code, *depth, *cells));
+            let times = one_piece(&Machine::new(code, *depth, *cells), budget);
             row(&format!("code of {} records", code.len() / 5), 1, times, "");
             times
         })
@@ -189,9 +151,9 @@ fn of_codes(name: &str, codes: &[(Vec<u8>, usize, usize)], call: impl Fn(&Machin
     row("of it, for each record of the code", 1, each, "");
 }
 
-/// Pieces of no record and of one, and carrying over, of codes of any length.
+/// Pieces of no record and of one, of codes of any length.
 pub fn single(texts: &[Text]) {
-    println!("\neach call tests its whole code: a fixed part of its time, and a part for each record of the code");
+    println!("\na piece tests its whole code again: a fixed part of its time, and a part for each record of the code");
     let of_text = |(_, text): &Text| {
         let (code, _, depth, cells) = compiled(text);
         (code, depth, cells)
@@ -199,7 +161,6 @@ pub fn single(texts: &[Text]) {
     let mut codes: Vec<_> = texts.iter().map(of_text).collect();
     codes.push((longest(), 1, 1));
     for budget in [0, 1] {
-        of_codes(&format!("one piece of {budget}"), &codes, |machine| one_piece(machine, budget));
+        of_codes(&codes, budget);
     }
-    of_codes("carrying over", &codes, carried);
 }

@@ -1,6 +1,6 @@
-/* The native stack that each exported call uses, and the inspection, the paired run, going on and carrying over,
- * through their probes. The call runs on a stack of its own, painted before; the lowest byte that lost its paint tells
- * how far it went. What an empty call uses is taken off.
+/* The native stack that each exported call uses, and the inspection, the paired run and going on, through their probes.
+ * The call runs on a stack of its own, painted before; the lowest byte that lost its paint tells how far it went. What
+ * an empty call uses is taken off.
  *
  *     stack TEXT_FILE...
  *
@@ -19,8 +19,6 @@ uint64_t probe_run_paired(const uint8_t *code, size_t code_length, const uint8_t
                           int32_t *store, size_t store_length, uint64_t depth, uint32_t budget);
 uint64_t probe_go_on(const uint8_t *code, size_t code_length, int32_t *memory, size_t memory_length, uint64_t depth,
                      uint64_t cells, uint32_t *state, size_t state_length, uint32_t budget);
-uint64_t probe_carry(const uint8_t *code, size_t code_length, const int32_t *memory, size_t memory_length,
-                     uint64_t depth, uint64_t cells, uint32_t *state, size_t state_length);
 
 enum { LONGEST = 4096, RECORD = 5, SPACE = 1 << 20, PAINT = 0xa5, LIMIT = 32 * 1024 };
 enum { SPENT = 1 << 8 }; /* bits 0-15 of a spent run's answer */
@@ -30,7 +28,7 @@ static int32_t store[64], memory[PROFILE_MEMORY_CELLS];
 static uint32_t state[7];
 static size_t length;
 static unsigned records;
-static int refused; /* set where a run of one record or more, or a carry, is refused */
+static int refused; /* set where a run of one record or more is refused */
 
 /* The calls, on the buffers above. */
 static void nothing(void) {}
@@ -63,14 +61,6 @@ static void going_on(void)
     refused |= profile_refusal(answer) != PROFILE_ACCEPTED;
 }
 
-/* A fresh machine's state. */
-static void carrying(void)
-{
-    memset(state, 0, sizeof state);
-    uint64_t answer = probe_carry(code, RECORD * (size_t)records, memory, PROFILE_MEMORY_CELLS, 64, 64, state, 7);
-    refused |= profile_refusal(answer) != PROFILE_ACCEPTED;
-}
-
 static struct {
     const char *name;
     void (*call)(void);
@@ -82,9 +72,8 @@ static struct {
     {"probe_inspect", inspecting, 0},
     {"probe_run_paired", running_paired, 0},
     {"probe_go_on", going_on, 0},
-    {"probe_carry", carrying, 0},
 };
-enum { INSPECT = 3, RUN_PAIRED, GO_ON, CARRY, CALLS = sizeof calls / sizeof calls[0] };
+enum { INSPECT = 3, RUN_PAIRED, GO_ON, CALLS = sizeof calls / sizeof calls[0] };
 
 /* How many bytes of a fresh stack a call changes. */
 static size_t stack_used(void (*call)(void))
@@ -198,7 +187,6 @@ static void measure_longest_code(void)
     measure_call(INSPECT);
     measure_call(RUN_PAIRED);
     measure_call(GO_ON);
-    measure_call(CARRY);
 }
 
 int main(int count, char **words)
@@ -210,7 +198,7 @@ int main(int count, char **words)
         measure_file(words[i]);
     measure_longest_code();
     if (refused)
-        fprintf(stderr, "a run or a carry is refused\n");
+        fprintf(stderr, "a run is refused\n");
     for (int i = 0; i < CALLS; i++) {
         printf("%s: %zu bytes of stack\n", calls[i].name, calls[i].most);
         failed |= calls[i].most == 0 || calls[i].most > LIMIT;

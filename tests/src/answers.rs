@@ -50,19 +50,17 @@ pub struct Ran {
     pub mark: u8,
 }
 
-/// A machine between two records (W7): what a spent run hands out, and what a later call takes. `carried` is the count
-/// at which it was carried over (W9), where it was.
+/// A machine between two records (W7): what a spent run hands out, and what a later call takes.
 #[derive(Clone, Copy, Debug, PartialEq, Eq)]
 pub struct State {
     pub position: u32,
     pub size: u32,
     pub count: u32,
     pub mark: u32,
-    pub carried: Option<u32>,
 }
 
 /// A machine that has not run.
-pub const FRESH: State = State { position: 0, size: 0, count: 0, mark: 0, carried: None };
+pub const FRESH: State = State { position: 0, size: 0, count: 0, mark: 0 };
 
 /// What a run of machine code gives: the run, and where it is spent the state that it hands out.
 pub type Piece = (Ran, Option<State>);
@@ -117,6 +115,4 @@ pub trait Calls {
 
     fn go_on(&self, code: &[u8], memory: &mut [i32], depth: u64, cells: u64, from: State, budget: u32)
         -> Answer<Piece>;
-
-    fn carry(&self, code: &[u8], memory: &[i32], depth: u64, cells: u64, from: State) -> Answer<State>;
 }

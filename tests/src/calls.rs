@@ -114,16 +114,6 @@ pub mod exported {
             state_len: usize,
             budget: u32,
         ) -> u64;
-        pub fn probe_carry(
-            code: *const u8,
-            code_len: usize,
-            memory: *const i32,
-            memory_len: usize,
-            depth: u64,
-            cells: u64,
-            state: *mut u32,
-            state_len: usize,
-        ) -> u64;
     }
 }
 
@@ -159,35 +149,27 @@ fn count(packed: u64) -> usize {
     (packed >> 8) as usize
 }
 
-/// What a word of a state holds before a call that does not look at it.
+/// What a state's last three words hold before a call: they belong to later requests, and no call looks at them.
 const UNUSED: u32 = 0xa5a5_a5a5;
 
-/// A state's seven words as they are lent: any number but 0 says that it was carried; where it was not, nothing looks
-/// at the count at which it was; the last belongs to a later request.
+/// A state's seven words.
 fn words(state: State) -> [u32; 7] {
-    let State { position, size, count, mark, carried } = state;
-    let was_carried = [1, 2, 1 << 8, 1 << 16, 1 << 31, u32::MAX][position as usize % 6];
-    let (was_carried, at) = carried.map_or((0, UNUSED), |at| (was_carried, at));
-    [position, size, count, mark, was_carried, at, UNUSED]
+    [state.position, state.size, state.count, state.mark, UNUSED, UNUSED, UNUSED]
 }
 
-/// The state that a call wrote, all seven words: 1 and the count where it was carried, else 0 and 0; and 0.
-fn written(left: [u32; 7]) -> State {
-    let [position, size, count, mark, was_carried, at, _] = left;
-    let carried = (was_carried != 0).then_some(at);
-    assert_eq!(left[4..], carried.map_or([0, 0, 0], |at| [1, at, 0]), "{left:?}");
-    State { position, size, count, mark, carried }
-}
-
-/// The answer of a run that was lent these words and left those: a spent run writes its state, its count and its mark
-/// among it; any other answer leaves them.
+/// The answer of a call that was lent these words and left those: a spent run writes all seven, its count and its mark
+/// among them and 0 in the last three; any other answer leaves them.
 fn piece(packed: u64, lent: [u32; 7], left: [u32; 7]) -> Answer<Piece> {
     let answer = answer(packed, |packed| {
+        let [position, size, count, mark, ..] = left;
         let ran = ran(packed);
-        (ran, (ran.end == End::Spent).then(|| written(left)))
+        (ran, (ran.end == End::Spent).then_some(State { position, size, count, mark }))
     });
     match answer {
-        Ok((ran, Some(state))) => assert_eq!((state.count, state.mark), (ran.count, ran.mark.into()), "{left:?}"),
+        Ok((ran, Some(state))) => {
+            assert_eq!((state.count, state.mark), (ran.count, ran.mark.into()), "{left:?}");
+            assert_eq!(left[4..], [0; 3], "{answer:?}");
+        }
         _ => assert_eq!(left, lent, "{answer:?}"),
     }
     answer
@@ -325,19 +307,5 @@ impl Calls for Libraries {
             exported::probe_go_on(code_at, code.len(), memory_at, memory.len(), depth, cells, state_at, 7, budget)
         };
         piece(packed, lent, state)
-    }
-
-    fn carry(&self, code: &[u8], memory: &[i32], depth: u64, cells: u64, from: State) -> Answer<State> {
-        let lent = words(from);
-        let mut state = lent;
-        let (code_at, memory_at, state_at) = (code.as_ptr(), memory.as_ptr(), state.as_mut_ptr());
-        let packed =
-            unsafe { exported::probe_carry(code_at, code.len(), memory_at, memory.len(), depth, cells, state_at, 7) };
-        let answer = answer(packed, |packed| {
-            assert_eq!(packed, 0, "bits above the packing");
-            written(state)
-        });
-        assert!(answer.is_ok() || state == lent, "{answer:?}: {state:?}");
-        answer
     }
 }

@@ -6,7 +6,6 @@ pub mod calls;
 pub mod foreign;
 pub mod generator;
 pub mod json;
-pub mod machines;
 pub mod model;
 pub mod pages;
 pub mod programs;

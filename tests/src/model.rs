@@ -122,57 +122,7 @@ pub fn read_text(text: &[u8]) -> Answer<Command> {
     Ok(command)
 }
 
-// ---- Sums (W8, W9)
-
-/// A run's end that no call gives since W8, with its count.
-#[derive(Clone, Copy, Debug, PartialEq, Eq)]
-pub struct OutOfRange(pub u32);
-
-/// What a run by W9's rule tells: what a call would, or that a sum past a limit stopped it.
-pub type Mixed<T> = Result<T, OutOfRange>;
-
-/// What ends a run.
-enum Stop {
-    End(End),
-    OutOfRange,
-}
-
-impl From<End> for Stop {
-    fn from(end: End) -> Stop {
-        Stop::End(end)
-    }
-}
-
-impl Stop {
-    fn told(self, count: u32, mark: u8) -> Mixed<Ran> {
-        match self {
-            Stop::End(end) => Ok(Ran { end, count, mark }),
-            Stop::OutOfRange => Err(OutOfRange(count)),
-        }
-    }
-}
-
-/// The rule for sums: "sums at ticks up to that count stop and later ones hold" (W9), the count being `stop`. By 0 all
-/// hold (W8), by a budget or more all stop (document 01). And the sums that were held.
-struct Sums {
-    stop: u32,
-    held: Held,
-}
-
-impl Sums {
-    fn new(stop: u32) -> Sums {
-        Sums { stop, held: Held::default() }
-    }
-
-    /// The sum at the tick of this number; a run's first tick is 1.
-    fn sum(&mut self, x: i32, y: i32, tick: u32) -> Result<i32, Stop> {
-        let past_a_limit = x.checked_add(y).is_none();
-        if past_a_limit && tick <= self.stop {
-            return Err(Stop::OutOfRange);
-        }
-        Ok(self.held.sum(x, y))
-    }
-}
+// ---- Sums (W8)
 
 /// How often sums were held at 2147483647 and at −2147483648.
 #[derive(Clone, Copy, Debug, Default, PartialEq, Eq)]
@@ -208,14 +158,14 @@ impl Held {
 // ---- Source rules and ticks
 
 /// A run of the source rules: its store, its count, its budget; the values on the stack, and the most that there were;
-/// its sums.
+/// the sums that it held.
 struct Source<'a> {
     store: &'a mut [i32],
     count: u32,
     budget: u32,
     height: u8,
     mark: u8,
-    sums: Sums,
+    held: Held,
 }
 
 impl Source<'_> {
@@ -233,7 +183,7 @@ impl Source<'_> {
         self.mark = self.mark.max(self.height);
     }
 
-    fn value(&mut self, expression: &Expression) -> Result<i32, Stop> {
+    fn value(&mut self, expression: &Expression) -> Result<i32, End> {
         match expression {
             Expression::Constant(z) => {
                 self.tick()?;
@@ -249,12 +199,12 @@ impl Source<'_> {
                 let (x, y) = (self.value(left)?, self.value(right)?);
                 self.tick()?;
                 self.height -= 1;
-                self.sums.sum(x, y, self.count)
+                Ok(self.held.sum(x, y))
             }
         }
     }
 
-    fn truth(&mut self, condition: &Condition, flag: bool) -> Result<bool, Stop> {
+    fn truth(&mut self, condition: &Condition, flag: bool) -> Result<bool, End> {
         match condition {
             Condition::Bc(value) => {
                 if *value == flag {
@@ -273,7 +223,7 @@ impl Source<'_> {
         }
     }
 
-    fn execute(&mut self, command: &Command) -> Result<(), Stop> {
+    fn execute(&mut self, command: &Command) -> Result<(), End> {
         match command {
             Command::Skip => Ok(()),
             Command::Assign(v, expression) => {
@@ -290,7 +240,7 @@ impl Source<'_> {
             Command::If(condition, first, second) => {
                 if self.truth(condition, false)? {
                     self.execute(first)?;
-                    Ok(self.tick()?)
+                    self.tick()
                 } else {
                     self.execute(second)
                 }
@@ -556,23 +506,20 @@ fn effect(record: Record) -> (usize, usize) {
     }
 }
 
-/// The record at the position, which the count counts, and the machine after it; or its end, which changes no cell.
-fn step(code: &[Record], memory: &mut dyn Memory, depth: usize, state: State, sums: &mut Sums) -> Result<State, Stop> {
+/// The record at the position, and the machine after it; or its end, which changes no cell.
+fn step(code: &[Record], memory: &mut dyn Memory, depth: usize, state: State, held: &mut Held) -> Result<State, End> {
     let (position, size) = (state.position as usize, state.size as usize);
     let record = code[position];
     let (takes, puts) = effect(record);
     if size < takes {
-        return Err(End::Short.into());
+        return Err(End::Short);
     }
     let mut next = position as i64 + 1;
     match record {
-        Loadi(_) | Load(_) if size == depth => return Err(End::Full.into()),
+        Loadi(_) | Load(_) if size == depth => return Err(End::Full),
         Loadi(z) => *memory.slot(size) = z,
         Load(name) => *memory.slot(size) = *memory.named(name),
-        Add => {
-            let (x, y) = (*memory.slot(size - 2), *memory.slot(size - 1));
-            *memory.slot(size - 2) = sums.sum(x, y, state.count)?;
-        }
+        Add => *memory.slot(size - 2) = held.sum(*memory.slot(size - 2), *memory.slot(size - 1)),
         Store(name) => *memory.named(name) = *memory.slot(size - 1),
         Jmp(i) => next += i64::from(i),
         Jmpless(i) if *memory.slot(size - 2) < *memory.slot(size - 1) => next += i64::from(i),
@@ -580,38 +527,30 @@ fn step(code: &[Record], memory: &mut dyn Memory, depth: usize, state: State, su
         Jmpless(_) | Jmpge(_) => {}
     }
     if next < 0 || next > code.len() as i64 {
-        return Err(End::Astray.into());
+        return Err(End::Astray);
     }
     let size = (size - takes + puts) as u32;
     Ok(State { position: next as u32, size, mark: state.mark.max(size), ..state })
 }
 
-/// Runs on from a machine, spent at the count `limit`: what the run tells, and where it is spent the machine as it is
-/// then.
-fn run(
-    code: &[Record],
-    memory: &mut dyn Memory,
-    depth: usize,
-    from: State,
-    limit: u32,
-    sums: &mut Sums,
-) -> Mixed<Piece> {
-    let mut state = from;
-    let stop = loop {
+/// Runs on from a machine, spent at the count `limit`: what the run tells, the machine as it is then, and the sums that
+/// were held.
+fn run(code: &[Record], memory: &mut dyn Memory, depth: usize, from: State, limit: u32) -> (Ran, State, Held) {
+    let (mut state, mut held) = (from, Held::default());
+    let end = loop {
         if state.position as usize == code.len() {
-            break Stop::End(End::Done);
+            break End::Done;
         }
         if state.count == limit {
-            break Stop::End(End::Spent);
+            break End::Spent;
         }
         state.count += 1;
-        match step(code, memory, depth, state, sums) {
+        match step(code, memory, depth, state, &mut held) {
             Ok(next) => state = next,
-            Err(stop) => break stop,
+            Err(end) => break end,
         }
     };
-    let ran = stop.told(state.count, state.mark as u8)?;
-    Ok((ran, (ran.end == End::Spent).then_some(state)))
+    (Ran { end, count: state.count, mark: state.mark as u8 }, state, held)
 }
 
 /// 11: D or n above 64, or a memory that has not D + 1 + n cells.
@@ -704,35 +643,16 @@ fn agree(machine: &[Record], n: usize) -> Answer<()> {
     }
 }
 
-// ---- A paused run's state (W7)
-
-/// The records, and the count at which a run from this state is spent; or 9, 10, 11, 15.
-fn taken(code: &[u8], memory: &[i32], depth: u64, n: u64, from: State, budget: u32) -> Answer<(Vec<Record>, u32)> {
-    whole(code)?;
-    let records = records(code, 0x50, 1..=n)?;
-    fits(depth, n, memory)?;
-    let limit = from.count.checked_add(budget).ok_or(Refusal(15, 0))?;
-    if from.position as usize > records.len() || from.size > from.mark || u64::from(from.mark) > depth {
-        return Err(Refusal(15, 0));
-    }
-    Ok((records, limit))
-}
-
 // ---- The runs, each with the sums that it held
 
-/// The source rules' run, in which sums at ticks up to `stop` stop and later ones hold (W9).
-pub fn mixed_source(text: &[u8], store: &mut [i32], budget: u32, stop: u32) -> Answer<(Mixed<Ran>, Held)> {
+pub fn by_source(text: &[u8], store: &mut [i32], budget: u32) -> Answer<(Ran, Held)> {
     let command = read_text(text)?;
     if store.len() != 64 {
         return Err(Refusal(8, 0));
     }
-    let mut run = Source { store, count: 0, budget, height: 0, mark: 0, sums: Sums::new(stop) };
-    let end = run.execute(&command).err().unwrap_or(Stop::End(End::Done));
-    Ok((end.told(run.count, run.mark), run.sums.held))
-}
-
-pub fn by_source(text: &[u8], store: &mut [i32], budget: u32) -> Answer<(Ran, Held)> {
-    mixed_source(text, store, budget, 0).map(|(ran, held)| (ran.unwrap(), held))
+    let mut run = Source { store, count: 0, budget, height: 0, mark: 0, held: Held::default() };
+    let end = run.execute(&command).err().unwrap_or(End::Done);
+    Ok((Ran { end, count: run.count, mark: run.mark }, run.held))
 }
 
 pub fn by_assembly(code: &[u8], store: &mut [i32], stack: &mut [i32], budget: u32) -> Answer<(Ran, Held)> {
@@ -745,28 +665,11 @@ pub fn by_assembly(code: &[u8], store: &mut [i32], stack: &mut [i32], budget: u3
     if depth > 64 {
         return Err(Refusal(11, 0));
     }
-    let mut sums = Sums::new(0);
-    let (ran, _) = run(&records, &mut AssemblyMemory { store, stack }, depth, FRESH, budget, &mut sums).unwrap();
-    Ok((ran, sums.held))
+    let (ran, _, held) = run(&records, &mut AssemblyMemory { store, stack }, depth, FRESH, budget);
+    Ok((ran, held))
 }
 
-/// The machine's run by that rule, from a state on, the budget counting from there; or 9, 10, 11, 15.
-pub fn mixed_machine(
-    code: &[u8],
-    memory: &mut [i32],
-    depth: u64,
-    n: u64,
-    from: State,
-    budget: u32,
-    stop: u32,
-) -> Answer<(Mixed<Piece>, Held)> {
-    let (records, limit) = taken(code, memory, depth, n, from, budget)?;
-    let (depth, mut sums) = (depth as usize, Sums::new(stop));
-    let piece = run(&records, &mut Cells { cells: memory, depth }, depth, from, limit, &mut sums);
-    Ok((piece, sums.held))
-}
-
-/// W7: goes on from a state.
+/// W7: goes on from a machine, the budget counting from there; or 9, 10, 11, 15.
 pub fn by_machine(
     code: &[u8],
     memory: &mut [i32],
@@ -775,7 +678,16 @@ pub fn by_machine(
     from: State,
     budget: u32,
 ) -> Answer<(Piece, Held)> {
-    mixed_machine(code, memory, depth, n, from, budget, 0).map(|(piece, held)| (piece.unwrap(), held))
+    whole(code)?;
+    let records = records(code, 0x50, 1..=n)?;
+    fits(depth, n, memory)?;
+    let depth = depth as usize;
+    let limit = from.count.checked_add(budget).ok_or(Refusal(15, 0))?;
+    if from.position as usize > records.len() || from.size > from.mark || from.mark as usize > depth {
+        return Err(Refusal(15, 0));
+    }
+    let (ran, state, held) = run(&records, &mut Cells { cells: memory, depth }, depth, from, limit);
+    Ok(((ran, (ran.end == End::Spent).then_some(state)), held))
 }
 
 // ---- The calls
@@ -901,15 +813,6 @@ impl Calls for Interpreter {
 
     fn go_on(&self, code: &[u8], memory: &mut [i32], depth: u64, n: u64, from: State, budget: u32) -> Answer<Piece> {
         by_machine(code, memory, depth, n, from, budget).map(|(piece, _)| piece)
-    }
-
-    /// W9: "records in it that it was carried and at which count"; or 9, 10, 11, 15 with a budget of 0, 16.
-    fn carry(&self, code: &[u8], memory: &[i32], depth: u64, n: u64, from: State) -> Answer<State> {
-        taken(code, memory, depth, n, from, 0)?;
-        if from.carried.is_some() {
-            return Err(Refusal(16, 0));
-        }
-        Ok(State { carried: Some(from.count), ..from })
     }
 }
 

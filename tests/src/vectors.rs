@@ -132,23 +132,11 @@ impl Call {
     pub fn state(&self) -> State {
         state(self.input("state"))
     }
-
-    /// The state that carrying over gives.
-    pub fn carried(&self) -> Answer<State> {
-        self.answer(|call| state(call.value.get("out").unwrap().get("state").unwrap()))
-    }
 }
 
-/// A state; its reach, which a later request keeps in it, is not there yet.
+/// A state; what later requests keep in it is not there yet.
 fn state(value: &Value) -> State {
-    let field = |name: &str| value.get(name).unwrap();
-    let number = |name: &str| u32::try_from(field(name).number()).unwrap();
-    assert_eq!(number("reach"), 0);
-    State {
-        position: number("position"),
-        size: number("size"),
-        count: number("count"),
-        mark: number("mark"),
-        carried: (*field("carried") != Value::Null).then(|| number("carried")),
-    }
+    let number = |name: &str| u32::try_from(value.get(name).unwrap().number()).unwrap();
+    assert_eq!((value.get("carried"), number("reach")), (Some(&Value::Null), 0));
+    State { position: number("position"), size: number("size"), count: number("count"), mark: number("mark") }
 }

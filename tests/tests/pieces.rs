@@ -1,17 +1,115 @@
 //! W7, pause and go on: a run in pieces is one run with their total; states handed out and states of any kind. Each
 //! call is made beside the simple interpreter.
 
-use profile_tests::answers::{Answer, Calls, End, Piece, Ran, Refusal, State, FRESH};
+use profile_tests::answers::{memory_cells, Answer, Calls, End, Piece, Ran, Refusal, State, FRESH};
+use profile_tests::both::{both, Compiled};
 use profile_tests::calls::Libraries;
-use profile_tests::foreign::record;
-use profile_tests::machines::{each_end, Machine};
-use profile_tests::model::Held;
+use profile_tests::foreign::{self, record, Foreign};
+use profile_tests::generator::{self, Random};
+use profile_tests::model::{self, Held, Interpreter};
 use profile_tests::seeds;
 
 const TEXTS: u64 = 4000;
 const CODES: u64 = 10_000;
 
+/// Records that most runs don't need.
+const MANY: u32 = 4000;
+
 const NO_STATE: Answer<Piece> = Err(Refusal(15, 0));
+
+/// Machine code with its D and n, and its memory.
+#[derive(Clone, Debug, PartialEq)]
+struct Machine {
+    code: Vec<u8>,
+    memory: Vec<i32>,
+    depth: u64,
+    cells: u64,
+}
+
+impl Machine {
+    /// A text compiled and a store loaded, and the table, where the text is accepted.
+    fn loaded(text: &[u8], store: &[i32]) -> Option<(Machine, Vec<u8>)> {
+        let compiled = Compiled::of(text).ok()?;
+        let memory = compiled.load(store);
+        let Compiled { code, table, depth, cells } = compiled;
+        Some((Machine { code, memory, depth, cells }, table))
+    }
+
+    /// With any memory.
+    fn of(code: Vec<u8>, depth: u64, cells: u64, random: &mut Random) -> Machine {
+        Machine { code, memory: random.cells(memory_cells(depth, cells)), depth, cells }
+    }
+
+    fn foreign(random: &mut Random) -> Machine {
+        let Foreign { code, depth, cells } = Foreign::any(random);
+        Machine::of(code, depth, cells, random)
+    }
+
+    fn records(&self) -> u32 {
+        self.code.len() as u32 / 5
+    }
+
+    /// A run from a fresh machine, or from a state, which leaves nothing else changed than the memory.
+    fn run(&mut self, from: Option<State>, budget: u32) -> Answer<Piece> {
+        let (answer, left) = both(&(from, budget, &self), |calls| {
+            let mut left = self.clone();
+            let Machine { code, memory, depth, cells } = &mut left;
+            let answer = match from {
+                None => calls.start(code, memory, *depth, *cells, budget),
+                Some(state) => calls.go_on(code, memory, *depth, *cells, state, budget),
+            };
+            (answer, left)
+        });
+        assert_eq!(left.code, self.code);
+        self.memory = left.memory;
+        answer
+    }
+
+    /// A piece for each budget, the first from here and each other from what the one before handed out; they stop where
+    /// none is. The last answer, and how many were run.
+    fn pieces(&mut self, from: Option<State>, budgets: &[u32]) -> (Answer<Piece>, usize) {
+        let mut answer = self.run(from, budgets[0]);
+        for (i, &budget) in budgets.iter().enumerate().skip(1) {
+            let Ok((_, Some(state))) = answer else { return (answer, i) };
+            answer = self.run(Some(state), budget);
+        }
+        (answer, budgets.len())
+    }
+
+    /// How many records a run from here takes, where it ends before MANY; 0 where it declines.
+    fn ends_at(&self, from: State) -> Option<u32> {
+        let (mut memory, from) = (self.memory.clone(), State { count: 0, ..from });
+        match Interpreter.go_on(&self.code, &mut memory, self.depth, self.cells, from, MANY) {
+            Ok((_, Some(_))) => None,
+            Ok((ran, None)) => Some(ran.count),
+            Err(_) => Some(0),
+        }
+    }
+
+    /// A run from a state, with the sums that it holds, on a copy of the memory.
+    fn held(&self, from: State, budget: u32) -> Answer<(Piece, Held)> {
+        model::by_machine(&self.code, &mut self.memory.clone(), self.depth, self.cells, from, budget)
+    }
+
+    /// One to twenty budgets, zeros among them. Where the run ends, their total may be all that 32 bits hold.
+    fn budgets(&self, random: &mut Random) -> Vec<u32> {
+        let ends_at = self.ends_at(FRESH);
+        let most = ends_at.unwrap_or(MANY) as usize;
+        let mut budgets: Vec<u32> = (0..1 + random.below(20))
+            .map(|_| match random.below(4) {
+                0 => 0,
+                1 => random.below(4) as u32,
+                2 => random.below(most / 8 + 2) as u32,
+                _ => random.below(most / 2 + 2) as u32,
+            })
+            .collect();
+        if ends_at.is_some() && random.one_in(2) {
+            let rest = u32::MAX - budgets.iter().sum::<u32>();
+            budgets.insert(random.below(budgets.len() + 1), rest);
+        }
+        budgets
+    }
+}
 
 /// How often lists came to each end after a pause, stopped before their last budget, and were left with values on the
 /// stack; and how often one held a sum at each limit after a pause.
@@ -58,7 +156,7 @@ fn compiled_machines() {
     seeds::for_each_text(TEXTS, |text, random| {
         let start = random.cells(64);
         let Some((machine, table)) = Machine::loaded(text, &start) else { return };
-        let budgets = machine.budgets(0, random);
+        let budgets = machine.budgets(random);
         let (got, left) = pieces_are_one_run(&machine, &budgets, &mut tally);
         let (ran, _) = got.unwrap();
         let (mut store, mut by_rules) = (start.clone(), start);
@@ -78,13 +176,33 @@ fn foreign_machines() {
     let mut tally = Tally::default();
     seeds::for_each(CODES, |random| {
         let machine = Machine::foreign(random);
-        let budgets = machine.budgets(0, random);
+        let budgets = machine.budgets(random);
         pieces_are_one_run(&machine, &budgets, &mut tally);
     });
     use End::*;
     if seeds::all() {
         assert!(tally.shows_all(&[Done, Spent, Short, Full, Astray]), "{tally:?}");
     }
+}
+
+/// Machines of D 2 and n 2 that come to each end after some records, and one that comes to none; two that are done hold
+/// a sum, one at each limit.
+fn each_end() -> Vec<(Machine, Option<End>)> {
+    let [load, one, add, store] = [record(0x51, 2), record(0x50, 1), record(0x52, 0), record(0x53, 1)];
+    let lowest = record(0x50, i32::MIN);
+    let last = |records: &[[u8; 5]], end| {
+        let code = [&[load, one, add, store, one, load], records].concat().concat();
+        (Machine { code, memory: vec![7, 7, 7, 7, i32::MAX - 1], depth: 2, cells: 2 }, end)
+    };
+    vec![
+        last(&[record(0x55, 0)], Some(End::Done)),
+        last(&[add, one, add, store], Some(End::Done)),
+        last(&[store, lowest, add, lowest, add, store], Some(End::Done)),
+        last(&[store, store, store], Some(End::Short)),
+        last(&[one], Some(End::Full)),
+        last(&[record(0x55, i32::MAX)], Some(End::Astray)),
+        last(&[record(0x55, -7)], None),
+    ]
 }
 
 /// Each total in each two pieces, with pauses of no record about them, and in pieces of one record.
@@ -112,7 +230,7 @@ fn record_by_record() {
     let (mut machine, _) = Machine::loaded(&text, &[3; 64]).unwrap();
     let spent = |count, mark, position, size| {
         let ran = Ran { end: End::Spent, count, mark };
-        Ok((ran, Some(State { position, size, count, mark: mark.into(), carried: None })))
+        Ok((ran, Some(State { position, size, count, mark: mark.into() })))
     };
     let mut from = None;
     for (want, memory) in [
@@ -124,6 +242,62 @@ fn record_by_record() {
         let got = machine.run(from, 1);
         assert_eq!((got, &machine.memory[..]), (want, &memory[..]));
         from = got.unwrap().1;
+    }
+}
+
+/// A number around a limit: up to it most often; one less, one more, so much more that its low byte doesn't show; any.
+fn around(limit: u32, random: &mut Random) -> u32 {
+    match random.below(16) {
+        0 => limit.wrapping_sub(1),
+        1 => limit.wrapping_add(1),
+        2 => limit.wrapping_add(1 << [8, 16, 24, 31][random.below(4)]),
+        3 => random.bits() as u32,
+        4..=7 => limit,
+        _ => random.below(limit as usize + 1) as u32,
+    }
+}
+
+impl Machine {
+    /// One of both kinds; or any records, some of which are none.
+    fn any(random: &mut Random) -> Machine {
+        let (text, store) = (generator::text(random), random.cells(64));
+        match Machine::loaded(&text, &store) {
+            Some((machine, _)) if random.one_in(3) => machine,
+            _ if random.one_in(2) => Machine::foreign(random),
+            _ => {
+                let (code, depth, cells) = (foreign::code(random, 0x50), random.below(5), 4 + random.below(3));
+                Machine::of(code, depth as u64, cells as u64, random)
+            }
+        }
+    }
+
+    /// Code, memory, D or n changed, cut or made longer.
+    fn damage(&mut self, random: &mut Random) {
+        match random.below(5) {
+            0 => self.code.push(0x52),
+            1 if !self.code.is_empty() => random.change_byte(&mut self.code),
+            2 => {
+                let length = random.below(140);
+                self.memory = random.cells(length);
+            }
+            3 => self.depth = [self.depth + 1, 60 + random.below(10) as u64, random.bits()][random.below(3)],
+            _ => self.cells = [self.cells + 1, 60 + random.below(10) as u64, random.bits()][random.below(3)],
+        }
+    }
+
+    /// A state that no run need have handed out, and a budget: few records, or with the count as much as 32 bits hold,
+    /// one less or one more.
+    fn any_state(&self, random: &mut Random) -> (State, u32) {
+        let position = around(self.records(), random);
+        let mark = around(self.depth as u32, random);
+        let state = State { position, size: around(mark, random), count: random.below(100) as u32, mark };
+        let (budget, off) = (random.budget(), random.below(3) as u32);
+        let rest = |number: u32| (u32::MAX - number).wrapping_sub(1).wrapping_add(off);
+        match random.below(4) {
+            0 => (State { count: rest(budget), ..state }, budget),
+            1 if self.ends_at(state).is_some() => (state, rest(state.count)),
+            _ => (state, budget),
+        }
     }
 }
 
@@ -194,7 +368,10 @@ fn handed_out_and_taken() {
 #[test]
 fn the_last_counts() {
     let endless = Machine { code: record(0x54, -1).to_vec(), memory: vec![7], depth: 0, cells: 0 };
-    let spent = |count| Ok((Ran { end: End::Spent, count, mark: 0 }, Some(State { count, ..FRESH })));
+    let spent = |count| {
+        let state = State { position: 0, size: 0, count, mark: 0 };
+        Ok((Ran { end: End::Spent, count, mark: 0 }, Some(state)))
+    };
     for (count, budget, want) in [
         (4294967294, 0, spent(4294967294)),
         (4294967294, 1, spent(4294967295)),
@@ -233,7 +410,7 @@ fn states_that_no_run_hands_out() {
         (4, 0, done(0), [40, 2, 9, 3, 3]),
         (4, 7, done(0), [40, 2, 9, 3, 3]),
     ] {
-        let (mut machine, from) = (machine.clone(), State { position, size: 2, mark: 2, ..FRESH });
+        let (mut machine, from) = (machine.clone(), State { position, size: 2, count: 0, mark: 2 });
         assert_eq!(machine.run(Some(from), budget), want, "{from:?}");
         assert_eq!(machine.memory, memory, "{from:?}");
     }

@@ -1,8 +1,6 @@
 //! Bad input gets its numbered refusal with its place, and nothing is changed: by the libraries and by the simple
 //! interpreter.
 
-use std::fmt::Debug;
-
 use profile_tests::answers::{Answer, End, Piece, Ran, Refusal, Sizes, State};
 use profile_tests::both::both;
 
@@ -204,7 +202,7 @@ fn order_of_a_paired_run() {
 }
 
 /// The machine of PAIRED, with D 2 and n 2, between its second record and its third.
-const PAUSED: State = State { position: 2, size: 2, count: 2, mark: 2, carried: None };
+const PAUSED: State = State { position: 2, size: 2, count: 2, mark: 2 };
 
 /// Going on with so many cells lent for the memory, beside a run from a fresh machine, which declines alike but for 15.
 /// Where they decline, the memory stays, and so does the state, which the calls see to.
@@ -223,73 +221,34 @@ fn going_on(code: &[u8], lent: usize, depth: u64, n: u64, from: State) -> Answer
     })
 }
 
-// ---- The refusals of every call that takes a state: 9, 10 and 11 are alike, whatever comes after them
-
-/// A call on code, so many cells, D, n and a state.
-trait OnState<T>: Fn(&[u8], usize, u64, u64, State) -> Answer<T> {}
-
-impl<T, F: Fn(&[u8], usize, u64, u64, State) -> Answer<T>> OnState<T> for F {}
-
-fn declines_any_lengths<T: Debug + PartialEq>(call: impl OnState<T>) {
+#[test]
+fn going_on_with_any_lengths() {
     let code = PAIRED.concat();
+    let done = Ok((Ran { end: End::Done, count: 4, mark: 2 }, None));
+    assert_eq!(going_on(&code, 5, 2, 2, PAUSED), done);
     for bytes in 1..5 {
-        assert_eq!(call(&code[bytes..], 5, 2, 2, PAUSED), refused(9, 0));
+        assert_eq!(going_on(&code[bytes..], 5, 2, 2, PAUSED), refused(9, 0));
     }
-    assert_eq!(call(&[0x54, 0, 0, 0, 0].repeat(4097), 5, 2, 2, PAUSED), refused(9, 0));
+    assert_eq!(going_on(&[0x54, 0, 0, 0, 0].repeat(4097), 5, 2, 2, PAUSED), refused(9, 0));
     for lent in (0..=130).filter(|&n| n != 5) {
-        assert_eq!(call(&code, lent, 2, 2, PAUSED), refused(11, 0), "{lent} cells");
+        assert_eq!(going_on(&code, lent, 2, 2, PAUSED), refused(11, 0), "{lent} cells");
     }
     for many in [65, 66, 128, 256, 1 << 32, u64::MAX - 1, u64::MAX] {
         let lent = (many.wrapping_add(3) % 256) as usize;
-        assert_eq!(call(&code, lent, many, 2, PAUSED), refused(11, 0), "D {many}");
-        assert_eq!(call(&code, lent, 2, many, PAUSED), refused(11, 0), "n {many}");
+        assert_eq!(going_on(&code, lent, many, 2, PAUSED), refused(11, 0), "D {many}");
+        assert_eq!(going_on(&code, lent, 2, many, PAUSED), refused(11, 0), "n {many}");
     }
 }
 
 /// Records that are none, the first of them at its index; addresses above n, whatever n is.
-fn declines_any_records<T: Debug + PartialEq>(call: impl OnState<T>) {
-    for (index, code) in with_bad_records() {
-        assert_eq!(call(&code, 5, 2, 2, PAUSED), refused(10, index), "{code:02x?}");
-    }
-    assert_eq!(call(&PAIRED.concat(), 4, 2, 1, PAUSED), refused(10, 0));
-    assert_eq!(call(&[0x51, 65, 0, 0, 0], 68, 2, 65, PAUSED), refused(11, 0));
-    assert_eq!(call(&[0x51, 66, 0, 0, 0], 68, 2, 65, PAUSED), refused(10, 0));
-}
-
-/// 9, 10, 11 and these numbers, each alone, and the earlier of each two; `states` has those with the faults of two.
-fn declines_in_order<T: Debug + PartialEq>(
-    call: impl OnState<T>,
-    later: &[u8],
-    states: impl Fn([u8; 2]) -> Vec<State>,
-) {
-    let mut order = vec![(9, 0), (10, 2), (11, 0)];
-    order.extend(later.iter().map(|&number| (number, 0)));
-    for (i, &(number, place)) in order.iter().enumerate() {
-        for &(other, _) in &order[i..] {
-            let has = |one| [number, other].contains(&one);
-            let mut records = PAIRED;
-            records[2][1] = u8::from(has(10));
-            let (bytes, lent) = (if has(9) { 19 } else { 20 }, if has(11) { 6 } else { 5 });
-            for from in states([number, other]) {
-                let got = call(&records.concat()[..bytes], lent, 2, 2, from);
-                assert_eq!(got, refused(number, place), "{number} and {other}: {from:?}");
-            }
-        }
-    }
-}
-
-// ---- Going on
-
-#[test]
-fn going_on_with_any_lengths() {
-    let done = Ok((Ran { end: End::Done, count: 4, mark: 2 }, None));
-    assert_eq!(going_on(&PAIRED.concat(), 5, 2, 2, PAUSED), done);
-    declines_any_lengths(going_on);
-}
-
 #[test]
 fn going_on_with_any_records() {
-    declines_any_records(going_on);
+    for (index, code) in with_bad_records() {
+        assert_eq!(going_on(&code, 5, 2, 2, PAUSED), refused(10, index), "{code:02x?}");
+    }
+    assert_eq!(going_on(&PAIRED.concat(), 4, 2, 1, PAUSED), refused(10, 0));
+    assert_eq!(going_on(&[0x51, 65, 0, 0, 0], 68, 2, 65, PAUSED), refused(11, 0));
+    assert_eq!(going_on(&[0x51, 66, 0, 0, 0], 68, 2, 65, PAUSED), refused(10, 0));
 }
 
 /// States that PAIRED with D 2 and a budget of 1000 can't go on from: by position, stack size, mark and count.
@@ -307,98 +266,37 @@ fn no_states() -> [Vec<State>; 4] {
     ]
 }
 
-/// 15 under each of its conditions, and at their limits not; nor where the state was carried (W9).
+/// 15 under each of its conditions, and at their limits not.
 #[test]
 fn going_on_from_any_state() {
     for from in no_states().concat() {
         assert_eq!(going_on(&PAIRED.concat(), 5, 2, 2, from), refused(15, 0), "{from:?}");
     }
-    let at_limits = [
+    for from in [
         State { position: 4, ..PAUSED },
         State { size: 0, ..PAUSED },
         State { size: 0, mark: 0, ..PAUSED },
         State { count: 0, ..PAUSED },
         State { count: u32::MAX - 1000, ..PAUSED },
-    ];
-    for from in [&at_limits[..], &carried_states()].concat() {
+    ] {
         assert!(going_on(&PAIRED.concat(), 5, 2, 2, from).is_ok(), "{from:?}");
     }
 }
 
-/// 15 by each of its conditions.
+/// Each number alone, and the earlier of each two, 15 by each of its conditions.
 #[test]
 fn order_of_going_on() {
-    let states = |numbers: [u8; 2]| if numbers.contains(&15) { no_states().concat() } else { vec![PAUSED] };
-    declines_in_order(going_on, &[15], states);
-}
-
-// ---- Carrying over
-
-/// Carrying a state over, with so many cells lent for the memory, which stay. Where it declines, so does the state,
-/// which the calls see to.
-fn carrying(code: &[u8], lent: usize, depth: u64, n: u64, from: State) -> Answer<State> {
-    both(&(code, lent, depth, n, from), |calls| {
-        let memory = vec![7; lent];
-        let answer = calls.carry(code, &memory, depth, n, from);
-        assert_eq!(memory, vec![7; lent]);
-        answer
-    })
-}
-
-/// PAUSED, carried at any count: its own, one before it, one after it, the least and the greatest.
-fn carried_states() -> Vec<State> {
-    [2, 1, 3, 0, 256, 1 << 31, u32::MAX].map(|count| State { carried: Some(count), ..PAUSED }).to_vec()
-}
-
-/// The first three of 15's conditions; by the fourth no state is refused, since a budget of 0 passes no count.
-fn no_states_to_carry() -> Vec<State> {
-    no_states()[..3].concat()
-}
-
-#[test]
-fn carrying_with_any_lengths() {
-    assert_eq!(carrying(&PAIRED.concat(), 5, 2, 2, PAUSED), Ok(State { carried: Some(2), ..PAUSED }));
-    declines_any_lengths(carrying);
-}
-
-#[test]
-fn carrying_with_any_records() {
-    declines_any_records(carrying);
-}
-
-/// 15 under each condition that is left, and 16; at the limits of 15, and at every count, neither.
-#[test]
-fn carrying_any_state() {
-    let code = PAIRED.concat();
-    for from in no_states_to_carry() {
-        assert_eq!(carrying(&code, 5, 2, 2, from), refused(15, 0), "{from:?}");
+    let order = [(9, 0), (10, 2), (11, 0), (15, 0)];
+    for (i, &(number, place)) in order.iter().enumerate() {
+        for &(other, _) in &order[i..] {
+            let has = |one| [number, other].contains(&one);
+            let mut records = PAIRED;
+            records[2][1] = u8::from(has(10));
+            let (bytes, lent) = (if has(9) { 19 } else { 20 }, if has(11) { 6 } else { 5 });
+            for from in if has(15) { no_states().concat() } else { vec![PAUSED] } {
+                let got = going_on(&records.concat()[..bytes], lent, 2, 2, from);
+                assert_eq!(got, refused(number, place), "{number} and {other}: {from:?}");
+            }
+        }
     }
-    for from in carried_states() {
-        assert_eq!(carrying(&code, 5, 2, 2, from), refused(16, 0), "{from:?}");
-    }
-    let [.., counts] = no_states();
-    let at_limits = [
-        State { position: 4, ..PAUSED },
-        State { position: 0, size: 0, mark: 0, ..PAUSED },
-        State { size: 0, ..PAUSED },
-        State { count: 0, ..PAUSED },
-        State { count: 4294967295, ..PAUSED },
-    ];
-    for from in [&counts[..], &at_limits].concat() {
-        let carried = State { carried: Some(from.count), ..from };
-        assert_eq!(carrying(&code, 5, 2, 2, from), Ok(carried), "{from:?}");
-        assert_eq!(carrying(&code, 5, 2, 2, carried), refused(16, 0), "{carried:?}");
-    }
-}
-
-/// States with the faults of these refusals: 15 by each condition, 16 by each count at which it was carried.
-fn faulty_states(numbers: [u8; 2]) -> Vec<State> {
-    let states = if numbers.contains(&15) { no_states_to_carry() } else { vec![PAUSED] };
-    let records = if numbers.contains(&16) { carried_states() } else { vec![PAUSED] };
-    states.iter().flat_map(|&state| records.iter().map(move |one| State { carried: one.carried, ..state })).collect()
-}
-
-#[test]
-fn order_of_carrying() {
-    declines_in_order(carrying, &[15, 16], faulty_states);
 }

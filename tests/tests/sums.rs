@@ -156,7 +156,7 @@ fn any_two_on_the_stack() {
     let add = record(0x52, 0);
     for (&x, &y) in values.iter().flat_map(|x| values.iter().map(move |y| (x, y))) {
         let sum = clamped(i64::from(x) + i64::from(y));
-        let from = State { position: 0, size: 2, count: 41, mark: 2, carried: None };
+        let from = State { position: 0, size: 2, count: 41, mark: 2 };
         let done = Ok((Ran { end: End::Done, count: 42, mark: 2 }, None));
         let got: (Answer<Piece>, _) = both(&(x, y), |calls| {
             let mut memory = [9, y, x, 8, 6];

@@ -11,7 +11,7 @@ use profile_tests::vectors::{self, Call};
 /// Makes the call that a vector names, and compares what it gives and leaves.
 type Walk = fn(&dyn Calls, &Call);
 
-const WALKS: [(&str, Walk); 15] = [
+const WALKS: [(&str, Walk); 14] = [
     ("read", read),
     ("assemble", assemble),
     ("compile", compile),
@@ -26,7 +26,6 @@ const WALKS: [(&str, Walk); 15] = [
     ("inspect", inspect),
     ("run_paired", run_paired),
     ("go_on", go_on),
-    ("carry", carry),
 ];
 
 /// Each line is walked, and each walk has a line.
@@ -150,10 +149,4 @@ fn go_on(calls: &dyn Calls, call: &Call) {
     let (depth, n) = (call.number("D"), call.number("n"));
     let got = calls.go_on(&code, &mut memory, depth, n, call.state(), call.budget());
     assert_eq!((got, memory), (call.piece(), call.cells_after("memory")), "{call}");
-}
-
-fn carry(calls: &dyn Calls, call: &Call) {
-    let (code, memory) = (call.bytes("code"), call.cells("memory"));
-    let got = calls.carry(&code, &memory, call.number("D"), call.number("n"), call.state());
-    assert_eq!((got, memory), (call.carried(), call.cells_after("memory")), "{call}");
 }

@@ -17,7 +17,7 @@ use Rattle.text.specs.Cases.{A·text, B·text, C·text, D·text, E·text, F·tex
 use Rattle.text.specs.Cases.{K·text}
 use Rattle.source.specs.Rules.{charge, tick, raise, lower, cell, assign, in_range as source_in_range, add, value}
 use Rattle.source.specs.Rules.{truth, loop, exec, end_of, result_of}
-use Rattle.source.specs.Calls.{source_tests, run_source_by}
+use Rattle.source.specs.Calls.{source_tests, run_source}
 use Rattle.source.specs.Cases.{zeros}
 use Rattle.record.specs.Records.{rename}
 use Rattle.record.specs.Bytes.{first_byte, operand as record_operand, code_bytes, operation, name_of, option_map}
@@ -48,7 +48,7 @@ unfolding cases measured by_rules by_machine zeros
     expression_records condition_records records expression_depth condition_depth depth
     expression_names condition_names names how_many
     charge tick raise lower cell assign source_in_range add value truth loop exec end_of result_of
-    source_tests run_source_by
+    source_tests run_source
     rename first_byte record_operand code_bytes operation name_of option_map is_zero record_of in_front records_from
     taken pop push held keep in_range next land jump act after run_at run
     machine_tests tell state_tests go_on_by run_machine ran_of

@@ -13,12 +13,12 @@ use Rattle.text.specs.Syntax.{Command}
 use Rattle.text.specs.Sizes.{depth}
 use Rattle.text.specs.declared.Sizes.{Sizes}
 use Rattle.source.specs.Rules.{Store, run_rules}
-use Rattle.source.specs.Calls.{sums, source_tests, run_source_by, run_source, preview_source}
+use Rattle.source.specs.Calls.{sums, source_tests, run_source, preview_source}
 use Rattle.machine.specs.Machine.{fresh}
 use Rattle.machine.specs.Memories.{Assembly, assembly, machine_cells}
 use Rattle.machine.specs.Calls.{assembly_tests, run_assembly, fresh_state, Told, finished, paused}
 use Rattle.machine.specs.Calls.{state_tests, go_on_by, go_on, run_machine, ran_of, without_state}
-use Rattle.machine.specs.Pieces.{after_piece, in_pieces_by, in_pieces}
+use Rattle.machine.specs.Pieces.{after_piece, in_pieces}
 use Rattle.machine.specs.declared.State.{State}
 use Rattle.machine.proofs.SumRules.{never_out as no_run_out}
 use Rattle.machine.proofs.Calls.{told_ran}
@@ -62,7 +62,7 @@ given_of P (gives a) f h = h
 given_of P (refused number place) f h = tt
 
 from_source : (text : List ℕ) (store : Store) (budget : ℕ) → Given NotOut (run_source text store budget).0
-unfolding run_source_by
+unfolding run_source
 from_source text store budget =
     given_settled NotOut (source_tests text store) _ _ store (λ c. rules_never_out c budget store)
 
@@ -82,7 +82,7 @@ unfolding go_on_by
 from_state code memory D n s budget =
     given_settled NotTold (state_tests code memory D n s budget) _ _ memory
     (λ P e. no_run_out D (machine_cells D) P budget s.mark _
-    (sym (ap (λ (r : Ran). r.end) (told_ran _ _ _ _ _)) ∙ e))
+    (sym (ap (λ (r : Ran). r.end) (told_ran _ _ _ _)) ∙ e))
 
 after_given : (x : Answer Told × List ℤ) (next : State → List ℤ → Answer Told × List ℤ) → Given NotTold x.0
     → ((s : State) (memory : List ℤ) → Given NotTold (next s memory).0) → Given NotTold (after_piece x next).0
@@ -93,7 +93,7 @@ after_given (refused number place, memory) next h k = tt
 
 from_pieces : (code : List ℕ) (memory : List ℤ) (D n : ℕ) (s : State) (b : ℕ) (bs : List ℕ)
     → Given NotTold (in_pieces code memory D n s b bs).0
-unfolding in_pieces_by
+unfolding in_pieces
 from_pieces code memory D n s b [] = from_state code memory D n s b
 from_pieces code memory D n s b (b' ∷ bs) =
     after_given (go_on code memory D n s b) _ (from_state code memory D n s b)

@@ -10,7 +10,7 @@ use Rattle.base.proofs.Settled.{needed, gave, preview_made, preview_gave}
 use Rattle.text.specs.Encoding.{Within}
 use Rattle.text.proofs.Accepted.{accepted}
 use Rattle.source.specs.Rules.{Store, run_rules}
-use Rattle.source.specs.Calls.{sums, source_tests, run_source_by, run_source, preview_source}
+use Rattle.source.specs.Calls.{sums, source_tests, run_source, preview_source}
 use Rattle.source.proofs.Calls.{source_runs}
 use Rattle.machine.specs.Calls.{machine_tests, run_machine, without_state}
 use Rattle.machine.proofs.Calls.{fresh_run}
@@ -27,7 +27,7 @@ use Rattle.fitting.proofs.Rows.{preview_row}
 -- a run that gives has passed its tests, and is then its preview
 run_previewed : (text : List ℕ) (store : Store) (budget : ℕ) {ran : Ran} {s : Store}
     → run_source text store budget ≡ (gives ran, s) → preview_source text store budget ≡ (gives ran, s)
-unfolding preview_source run_source_by
+unfolding preview_source run_source
 run_previewed text store budget e =
     let g = gave (source_tests text store) _ _ store (sym e) in
     sym (preview_made (source_tests text store) _ g.passed) ∙ e

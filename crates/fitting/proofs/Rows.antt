@@ -5,6 +5,7 @@
 use mathlib.Core.Path.{◌≡◌, refl, sym, ◌∙◌, ap}
 use Prim.Native.Nat.{ℕ, ◌+◌, ◌*◌, ◌≤◌}
 use native.Mathlib.Omega.{arith}
+use mathlib.Core.Bool.{true}
 use mathlib.Core.List.{List}
 use lib.IntN.{ℤ}
 use lib.ListN.{length, take}
@@ -24,7 +25,7 @@ use Rattle.record.specs.Records.{MachineCode}
 use Rattle.record.specs.Bytes.{machine_kind, over}
 use Rattle.record.proofs.Written.{whole_written, written}
 use Rattle.machine.specs.Machine.{Machine}
-use Rattle.machine.specs.Calls.{machine_tests, machine_run, run_machine, without_state}
+use Rattle.machine.specs.Calls.{memory_fits, machine_tests, machine_run, run_machine, without_state}
 use Rattle.machine.proofs.Calls.{machine_passed, machine_runs, keeps_length}
 use Rattle.compile.specs.Compilation.{ccomp}
 use Rattle.compile.specs.Table.{to_m_prog, table}
@@ -91,21 +92,6 @@ table_passes c h store long = rw (tables c h).passes (simp (
   (named_variables c h).in_table,
 ))
 
--- So does its machine code, on the memory loaded from any store.
-pub code_passes : (c : Command) → Within c → (store : Store) → let D = depth c in let n = cells c in
-    machine_tests (machine_bytes c) (loaded (table (ccomp c)) D n store) D n ≡ gives (to_m_prog (ccomp c))
-unfolding machine_tests and_then
-code_passes c w store =
-    let P = to_m_prog (ccomp c) in
-    let few_records : records c ≤ 4096 = omega (arith, short c, w.short) in
-    simp (
-      whole_written (machine_kind (cells c)) P (omega (arith, machine_count c, few_records)),
-      written.in_machine (cells c) P (codes c w.valid few_records).in_machine,
-      le-leb (depth c) 64 (omega (arith, shallow c w.nested)),
-      le-leb (cells c) 64 (few c),
-      eq-eqb _ (depth c + 1 + cells c) (length_loaded (table (ccomp c)) (depth c) (cells c) store),
-    )
-
 module _ (text : List ℕ) (c : Command) (read : read_text text ≡ gives c) (w : Within c)
     (lent : Compiled) (memory : List ℤ) (store : Store) (ready : Ready c lent memory store) (budget : ℕ) where
   abbrev P : MachineCode
@@ -120,11 +106,29 @@ module _ (text : List ℕ) (c : Command) (read : read_text text ≡ gives c) (w 
   abbrev n : ℕ
   n = cells c
 
+  few_records : records c ≤ 4096
+  few_records = omega (arith, short c, w.short)
+
   table_tested : table_tests t store ≡ gives n
   table_tested = table_passes c w.valid store ready.store_cells
 
   abbrev ready_memory : List ℤ
   ready_memory = loaded t D n store
+
+  fits : memory_fits D n ready_memory ≡ true
+  fits = simp (
+    le-leb D 64 (omega (arith, shallow c w.nested)),
+    le-leb n 64 (few c),
+    eq-eqb (length ready_memory) (D + 1 + n) (length_loaded t D n store),
+  )
+
+  tested : machine_tests (machine_bytes c) ready_memory D n ≡ gives P
+  unfolding machine_tests and_then
+  tested = simp (
+    whole_written (machine_kind n) P (omega (arith, machine_count c, few_records)),
+    written.in_machine n P (codes c w.valid few_records).in_machine,
+    fits,
+  )
 
   -- what was written, in the output as it is left
   abbrev out : List ℕ
@@ -134,7 +138,7 @@ module _ (text : List ℕ) (c : Command) (read : read_text text ≡ gives c) (w 
   is_written = taken_over (machine_bytes c) lent.code (5 * records c) (machine_length c)
 
   tested_written : machine_tests (take (5 * records c) out) ready_memory D n ≡ gives P
-  tested_written = ap (λ code. machine_tests code ready_memory D n) is_written ∙ code_passes c w store
+  tested_written = ap (λ code. machine_tests code ready_memory D n) is_written ∙ tested
 
   abbrev ran : Result (Machine (List ℤ))
   ran = machine_run P ready_memory D budget

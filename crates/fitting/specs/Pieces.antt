@@ -1,26 +1,17 @@
 -- Demand 3 in pieces (document 02, W7): the four calls in a row, of which the third is made in pieces, each with its
--- own budget; and demand 3 of a run that was carried over (W9). The proof of the same spelling stands in proofs/.
-use Rattle.std.specs.Prelude.{◌≡◌, ℕ, ◌+◌, ◌*◌, ◌≤◌, List, ℤ, length, take}
+-- own budget. The proof of the same spelling stands in proofs/.
+use Rattle.std.specs.Prelude.{◌≡◌, ℕ, ◌*◌, ◌≤◌, List, take}
 use Rattle.base.specs.Acts.{◌>>=◌, ◌>>◌, give}
 use Rattle.base.specs.Answers.{Answer, gives}
 use Rattle.base.specs.Ends.{Ran}
 use Rattle.base.specs.Rows.{Row, call, answered}
-use Rattle.word.specs.Sums.{mixed}
 use Rattle.text.specs.Syntax.{Command}
 use Rattle.text.specs.Reading.{read_text}
 use Rattle.text.specs.Encoding.{Bytes}
-use Rattle.text.specs.Sizes.{depth, cells}
 use Rattle.text.specs.declared.Sizes.{Sizes}
-use Rattle.source.specs.Rules.{Store}
-use Rattle.source.specs.Calls.{run_source_by, run_source}
-use Rattle.machine.specs.Calls.{fresh_state, carry, without_state}
+use Rattle.source.specs.Calls.{run_source}
+use Rattle.machine.specs.Calls.{fresh_state, without_state}
 use Rattle.machine.specs.Pieces.{in_pieces, total}
-use Rattle.machine.specs.Carrying.{StoppingPause}
-use Rattle.machine.specs.declared.State.{State}
-use Rattle.compile.specs.Compilation.{ccomp}
-use Rattle.compile.specs.Table.{table}
-use Rattle.compile.specs.Calls.{machine_bytes}
-use Rattle.fitting.specs.Loading.{loaded, read_back}
 use Rattle.fitting.specs.Rows.{Lent, buffers, compiling, loading, reading_back, fit}
 use Rattle.fitting.specs.Demand3.{Ready}
 
@@ -50,19 +41,3 @@ PiecesFitted = (text : List ℕ) → Bytes text → (c : Command) → read_text 
     → (l : Lent) → Ready c (record { code = l.code; table = l.table }) l.memory l.store
     → (b : ℕ) (bs : List ℕ) → total b bs ≤ 4294967295
     → let r = fit_in_pieces text l b bs in run_source text l.store (total b bs) ≡ (r.0, r.1.store)
-
--- Demand 3 of a run that was carried over (document 02, W9). Of an accepted text, with its own code and table, from the
--- memory loaded with a store: where the stopping rule reaches a pause, which is carried over and goes on in pieces, the
--- last of them tells what the text's run tells from that store by the same mixed rule, under the pause's count and the
--- later budgets together, and the store read back after it is the one that the text's run leaves. And so it is of
--- `run_source` itself, which holds all sums: the stopping rule reached the pause, so no sum up to it was past a limit.
-abbrev pub CarriedFitted : Type 0
-CarriedFitted = (text : List ℕ) → Bytes text → (c : Command) → read_text text ≡ gives c
-    → (store : Store) → length store ≡ 64
-    → let code = machine_bytes c in let t = table (ccomp c) in let D = depth c in let n = cells c in
-    (s : State) (memory : List ℤ) → StoppingPause code (loaded t D n store) D n s memory
-    → (s' : State) → carry code memory D n s ≡ gives s'
-    → (b : ℕ) (bs : List ℕ) → let k = s.count in let budget = k + total b bs in budget ≤ 4294967295
-    → let run = without_state (in_pieces code memory D n s' b bs) in
-    let told : Answer Ran × Store = (run.0, read_back t D store run.1) in
-    (run_source_by (mixed budget k) text store budget ≡ told) × (run_source text store budget ≡ told)

@@ -22,7 +22,6 @@ use Rattle.base.specs.declared.Count.{Count}
 use Rattle.base.specs.declared.Count.TheVariants.{Refused, Gives}
 use Rattle.base.proofs.Answers.{gives_one}
 use Rattle.base.proofs.Settled.{unless_passed, needed, refused_first, both, settled, declined}
-use Rattle.word.specs.Sums.{SumRule}
 use Rattle.record.specs.Records.{AssemblyCode, MachineCode}
 use Rattle.record.specs.Bytes.{Kind, assembly_kind, machine_kind}
 use Rattle.record.specs.Bytes.{whole_records, record_count, records_from, records_of}
@@ -37,8 +36,6 @@ use Rattle.machine.specs.Calls.{run_machine}
 use Rattle.machine.specs.Calls.{ran_of, answer_without_state, without_state}
 use Rattle.machine.specs.Claims.{InBounds}
 use Rattle.machine.specs.Pieces.{FreshRun}
-use Rattle.machine.specs.declared.Carried.{Carried}
-use Rattle.machine.specs.declared.Carried.TheVariants.{Never}
 use Rattle.machine.specs.declared.State.{State}
 use Rattle.machine.proofs.Inside.{kept}
 
@@ -169,15 +166,15 @@ room_is count budget h = by (dec_lt 4294967295 (count + budget))
         le-leb (count + budget) 4294967295 (omega (arith, l)) ∙ sym
         (le-leb count (4294967295 - budget) (omega (arith, l)))
 
--- A run from a state that passes, by any rule for sums,
-abbrev pub Bounded : SumRule → MachineCode → ℕ → State → List ℤ → Type 0
-Bounded sum P D s m = InBounds sum D (machine_cells D) P s.mark (machine_at s.position s.size m)
+-- A run from a state that passes
+abbrev pub Bounded : MachineCode → ℕ → State → List ℤ → Type 0
+Bounded P D s m = InBounds sums D (machine_cells D) P s.mark (machine_at s.position s.size m)
 
 -- keeps the memory's length.
-pub length_kept : (sum : SumRule) (P : MachineCode) (m : List ℤ) (D : ℕ) (s : State) (budget : ℕ)
-    → Bounded sum P D s m → length (run_from sum P m D s budget).leaves.memory ≡ length m
-length_kept sum P m D s budget h =
-    kept sum D (machine_cells D) P (λ left. length left ≡ length m)
+pub length_kept : (P : MachineCode) (m : List ℤ) (D : ℕ) (s : State) (budget : ℕ) → Bounded P D s m
+    → length (run_from sums P m D s budget).leaves.memory ≡ length m
+length_kept P m D s budget h =
+    kept sums D (machine_cells D) P (λ left. length left ≡ length m)
     (record { saved = λ left a z h. length-set left _ z ∙ h; poked = λ left i z l h. length-set left _ z ∙ h })
     budget s.mark (machine_at s.position s.size m) h refl
 
@@ -224,8 +221,8 @@ module _ (code : List ℕ) (m : List ℤ) (D n : ℕ) (s : State) (budget : ℕ)
   unfolding state_tests and_then
   first_refused e = simp e
 
-  pub bounded : (sum : SumRule) {P : MachineCode} → StateFound P → Bounded sum P D s m
-  bounded sum f = record { placed = f.placed; held = f.held; marked = f.marked }
+  pub bounded : {P : MachineCode} → StateFound P → Bounded P D s m
+  bounded f = record { placed = f.placed; held = f.held; marked = f.marked }
 
   -- What was found, from the number of records given
   pub record StateTested (last : ℕ) : Type 0 where
@@ -275,26 +272,26 @@ module _ (code : List ℕ) (m : List ℤ) (D n : ℕ) (s : State) (budget : ℕ)
       passes_on true P = unfold and_then in refl
       passes_on false P = unfold and_then in refl
 
-  -- The call, by any rule for sums
-  pub state_declines : (sum : SumRule) {number place : ℕ} → state_tests code m D n s budget ≡ refused number place
-      → (refused number place, m) ≡ go_on_by sum code m D n s budget
+  -- The call
+  pub state_declines : {number place : ℕ} → state_tests code m D n s budget ≡ refused number place
+      → (refused number place, m) ≡ go_on code m D n s budget
   unfolding go_on_by
-  state_declines sum e = declined (state_tests code m D n s budget) _ _ m e
+  state_declines e = declined (state_tests code m D n s budget) _ _ m e
 
-  pub state_runs : (sum : SumRule) {P : MachineCode} → state_tests code m D n s budget ≡ gives P
-      → let r = run_from sum P m D s budget in
-      (gives (piece_told s budget r), r.leaves.memory) ≡ go_on_by sum code m D n s budget
+  pub state_runs : {P : MachineCode} → state_tests code m D n s budget ≡ gives P
+      → let r = run_from sums P m D s budget in
+      (gives (piece_told s budget r), r.leaves.memory) ≡ go_on code m D n s budget
   unfolding go_on_by
-  state_runs sum e = settled (state_tests code m D n s budget) _ _ m e refl
+  state_runs e = settled (state_tests code m D n s budget) _ _ m e refl
 
 -- ---- From a fresh machine
 
 -- what is told of a run without its state
-pub told_ran : (c : Carried) (e : End) (k mark : ℕ) (s : Machine (List ℤ)) → ran_of (tell c e k mark s) ≡ ran e k mark
+pub told_ran : (e : End) (k mark : ℕ) (s : Machine (List ℤ)) → ran_of (tell e k mark s) ≡ ran e k mark
 unfolding tell ran_of
-told_ran c End.done k mark s = refl
-told_ran c End.spent k mark s = refl
-told_ran c (fault e) k mark s = refl
+told_ran End.done k mark s = refl
+told_ran End.spent k mark s = refl
+told_ran (fault e) k mark s = refl
 
 -- and of a call's answer
 pub without_state_of : {a : Answer Told} {r : Answer Ran} {m : List ℤ} {x : Answer Told × List ℤ}
@@ -329,34 +326,24 @@ module _ (code : List ℕ) (m : List ℤ) (D n budget : ℕ) where
       → (refused number place, m) ≡ without_state (run_machine code m D n budget)
   unfolding run_machine and_then
   machine_declines e =
-      ap without_state (state_declines code m D n fresh_state budget sums
-      (first_refused code m D n fresh_state budget e))
-
-  -- a run by any rule for sums
-  pub fresh_runs : (sum : SumRule) {P : MachineCode} → machine_tests code m D n ≡ gives P
-      → let r = run_from sum P m D fresh_state budget in
-      (gives (report budget r), r.leaves.memory) ≡ without_state (go_on_by sum code m D n fresh_state budget)
-  unfolding and_then
-  fresh_runs sum {P} e =
-      let r = run_from sum P m D fresh_state budget in
-      (λ i. (gives (ran r.end (sym (zero-add (budget - r.left)) i) r.mark), r.leaves.memory))
-      ∙ (λ i.
-      (gives (sym (told_ran Never r.end (0 + (budget - r.left)) r.mark r.leaves) i), r.leaves.memory))
-      ∙ ap without_state (state_runs code m D n fresh_state budget sum
-      (state_passes code m D n fresh_state budget (fresh_found e)))
+      ap without_state (state_declines code m D n fresh_state budget (first_refused code m D n fresh_state budget e))
 
   pub machine_runs : {P : MachineCode} → machine_tests code m D n ≡ gives P
       → let r = machine_run P m D budget in
       (gives (report budget r), r.leaves.memory) ≡ without_state (run_machine code m D n budget)
-  unfolding run_machine
-  machine_runs e = fresh_runs sums e
+  unfolding run_machine and_then
+  machine_runs {P} e =
+      let r = machine_run P m D budget in
+      (λ i. (gives (ran r.end (sym (zero-add (budget - r.left)) i) r.mark), r.leaves.memory))
+      ∙ (λ i. (gives (sym (told_ran r.end (0 + (budget - r.left)) r.mark r.leaves) i), r.leaves.memory))
+      ∙ ap without_state (state_runs code m D n fresh_state budget
+      (state_passes code m D n fresh_state budget (fresh_found e)))
 
 -- A run keeps the memory's length.
 pub keeps_length : (P : MachineCode) (m : List ℤ) (D budget : ℕ)
     → length (machine_run P m D budget).leaves.memory ≡ length m
 keeps_length P m D budget =
-    length_kept sums P m D fresh_state budget
-    (record { placed = omega arith; held = omega arith; marked = omega arith })
+    length_kept P m D fresh_state budget (record { placed = omega arith; held = omega arith; marked = omega arith })
 
 -- The call, as a call with these tests (Pieces: FreshRun)
 pub fresh_run : FreshRun

@@ -1,19 +1,20 @@
--- Small codes come to their ends, in one run, in pieces and carried over, and the calls decline, by computation (Cases:
--- EndsCome, Holds, AssemblyDeclines, MachineDeclines, Pauses, StateDeclines, CarriesOver, CarryDeclines).
+-- Small codes come to their ends, in one run and in pieces, and the calls decline, by computation (Cases: EndsCome,
+-- Holds, AssemblyDeclines, MachineDeclines, Pauses, StateDeclines).
 use mathlib.Core.Path.{refl}
 use Rattle.base.specs.Acts.{then'}
 use Rattle.base.specs.Answers.{and_then, settle}
 use Rattle.word.specs.Numbers.{number_of, number_at}
-use Rattle.word.specs.Sums.{limited, stopping, clamped, holding, mixed}
+use Rattle.word.specs.Sums.{limited, stopping, clamped, holding}
 use Rattle.word.specs.Targets.{within, target}
 use Rattle.record.specs.Bytes.{operation, name_of, option_map, is_zero, record_of, in_front, records_from}
 use Rattle.machine.specs.Machine.{taken, pop, push, held, keep, in_range, next, land, jump, act, after, run_at}
 use Rattle.machine.specs.Machine.{run}
 use Rattle.machine.specs.Calls.{assembly_tests, run_assembly, machine_tests, tell, state_tests, go_on_by}
-use Rattle.machine.specs.Calls.{carry, run_machine, ran_of}
-use Rattle.machine.specs.Pieces.{after_piece, in_pieces_by}
+use Rattle.machine.specs.Calls.{run_machine}
+use Rattle.machine.specs.Calls.{ran_of}
+use Rattle.machine.specs.Pieces.{after_piece, in_pieces}
 use Rattle.machine.specs.Cases.{rows, EndsCome, Holds, AssemblyDeclines, MachineDeclines, Pauses}
-use Rattle.machine.specs.Cases.{StateDeclines, CarriesOver, CarryDeclines}
+use Rattle.machine.specs.Cases.{StateDeclines}
 
 pub ends_come : EndsCome
 unfolding rows then' clamped holding within target
@@ -74,7 +75,7 @@ pub pauses : Pauses
 unfolding then' and_then settle number_of number_at clamped holding within target
     operation name_of option_map is_zero record_of in_front records_from
     taken pop push held keep in_range next land jump act after run_at run
-    machine_tests tell state_tests go_on_by run_machine after_piece in_pieces_by
+    machine_tests tell state_tests go_on_by run_machine after_piece in_pieces
 pauses = record {
   first = refl;
   second = refl;
@@ -107,58 +108,4 @@ state_declines = record {
   nine_fifteen = refl;
   ten_fifteen = refl;
   eleven_fifteen = refl;
-}
-
-pub carries_over : CarriesOver
-unfolding then' and_then settle number_of number_at limited stopping clamped holding mixed within target
-    operation name_of option_map is_zero record_of in_front records_from
-    taken pop push held keep in_range next land jump act after run_at run
-    machine_tests tell state_tests go_on_by carry run_machine
-carries_over = record {
-  before = refl;
-  before_carried = refl;
-  before_on = refl;
-  before_mixed_on = refl;
-  before_done = refl;
-  before_mixed = refl;
-  due = refl;
-  due_carried = refl;
-  due_on = refl;
-  due_mixed = refl;
-  after = refl;
-  after_mixed = refl;
-  after_held = refl;
-  after_carried = refl;
-  after_on = refl;
-  at_0 = refl;
-  at_0_on = refl;
-  at_0_paused = refl;
-  at_limits = refl;
-}
-
-pub carry_declines : CarryDeclines
-unfolding and_then settle number_of number_at
-    operation name_of option_map is_zero record_of in_front records_from
-    machine_tests state_tests carry
-carry_declines = record {
-  nine = refl;
-  ten = refl;
-  ten_second = refl;
-  eleven = refl;
-  fifteen_position = refl;
-  fifteen_size = refl;
-  fifteen_mark = refl;
-  fifteen_count = refl;
-  not_fifteen = refl;
-  sixteen = refl;
-  sixteen_earlier = refl;
-  sixteen_later = refl;
-  sixteen_at_0 = refl;
-  nine_ten = refl;
-  ten_eleven = refl;
-  eleven_fifteen = refl;
-  fifteen_sixteen = refl;
-  nine_sixteen = refl;
-  ten_sixteen = refl;
-  eleven_sixteen = refl;
 }

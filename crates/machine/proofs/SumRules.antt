@@ -1,9 +1,7 @@
--- Two rules for sums, the second the first's wherever that fits: so are the runs (Claims: AgreedBy, Agreed). Two rules
--- alike below the budget give the same run. And by a rule that gives a number for every sum no run ends out of range
--- (Claims: NeverOut).
+-- Two rules for sums, the second the first's wherever that fits: so are the runs (Claims: AgreedBy, Agreed). And by a
+-- rule that gives a number for every sum no run ends out of range (Claims: NeverOut).
 use mathlib.Core.Path.{◌≡◌, refl, sym, ◌∙◌, ap, subst}
 use Prim.Native.Nat.{ℕ, zero, suc, max}
-use native.Mathlib.Omega.{arith}
 use mathlib.Core.Bool.{Bool, true, false}
 use mathlib.Core.List.{List}
 use mathlib.Core.Option.{Option, none, some}
@@ -13,7 +11,7 @@ use lib.ListN.{length}
 use lib.Signed.{lt_z}
 use Rattle.base.specs.Acts.{Outcome, ok, ended, Act, then', if◌then◌else◌}
 use Rattle.base.specs.Ends.{Fault, End, fault, Result, result}
-use Rattle.word.specs.Sums.{Sum, fits, out, SumRule, stopping, holding, stopping_at, Extends, AlikeBelow}
+use Rattle.word.specs.Sums.{Sum, fits, out, SumRule, stopping, holding, stopping_at, Extends}
 use Rattle.word.specs.Targets.{target}
 use Rattle.word.specs.declared.Target.{Target}
 use Rattle.word.specs.declared.Target.TheVariants.{To, Astray}
@@ -122,30 +120,6 @@ module _ {M Name : Type 0} (D : ℕ) (o : Memory M Name) (code : List (Record Na
   pub agreed : Agreed D o code
   agreed n μ s no-sum =
       agreed_by stopping holding same_within.held n μ s (λ e. no-sum _ (stopped n μ s e))
-
--- ---- Rules alike below the budget
-
-module _ {M Name : Type 0} (first second : SumRule) (D : ℕ) (o : Memory M Name) (code : List (Record Name)) where
-  below_at : (n : ℕ) (r : Option (Record Name)) (μ : ℕ) (s : Machine M) → AlikeBelow n first second
-      → run_at first D o code n r μ s ≡ run_at second D o code n r μ s
-  unfolding run_at
-  below_at zero none μ s h = refl
-  below_at (suc n) none μ s h = refl
-  below_at zero (some r) μ s h = refl
-  below_at (suc n) (some r) μ s h =
-      ap (λ (sum : ℤ → ℤ → Sum). after (act sum D o (length code) r s)
-      (λ t. run_at first D o code n (due first D o code t) (max μ t.size) t) faulted)
-      (λ i x y. h n (omega arith) x y i)
-      ∙ ap (λ (go : Machine M → Result (Machine M)). after (act (second n) D o (length code) r s) go faulted)
-      (λ i t. below_at n (due first D o code t) (max μ t.size) t (λ k l. h k (omega arith)) i)
-    where
-      faulted : Fault → Result (Machine M)
-      faulted e = result (fault e) n μ s
-
-  pub run_alike : (n μ : ℕ) (s : Machine M) → AlikeBelow n first second
-      → run first D o code n μ s ≡ run second D o code n μ s
-  unfolding run
-  run_alike n μ s = below_at n (due first D o code s) μ s
 
 -- ---- No end out of range
 

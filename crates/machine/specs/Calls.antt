@@ -1,7 +1,7 @@
--- The calls `run_assembly` and `run_machine` (document 01, "Executors"), which "run from a fresh machine", `go_on`
--- (document 02, W7), which runs on from the state of a paused run, and `carry` (W9), which carries such a state over.
--- `run_machine` is `go_on` from a fresh machine, and stands after it.
-use Rattle.std.specs.Prelude.{◌≡◌, ◌⊎◌, ◌↔◌, ℕ, ◌+◌, ◌-◌, ◌≤◌, ◌<◌, Bool, true, false, ◌&&◌, List, eqb, leb, ℤ, length}
+-- The calls `run_assembly` and `run_machine` (document 01, "Executors"), which "run from a fresh machine", and `go_on`
+-- (document 02, W7), which runs on from the state of a paused run. `run_machine` is `go_on` from a fresh machine, and
+-- stands after it.
+use Rattle.std.specs.Prelude.{◌≡◌, ◌⊎◌, ◌↔◌, ℕ, ◌+◌, ◌-◌, ◌≤◌, ◌<◌, Bool, true, ◌&&◌, List, eqb, leb, ℤ, length}
 use Rattle.base.specs.Answers.{Answer, gives, unless◌refuse◌at◌else◌, and_then, settle}
 use Rattle.base.specs.Ends.{End, fault, Result, Ran, ran, report}
 use Rattle.word.specs.Sums.{SumRule, holding}
@@ -9,8 +9,6 @@ use Rattle.record.specs.Records.{AssemblyCode, MachineCode}
 use Rattle.record.specs.Bytes.{assembly_kind, machine_kind, whole_records, records_of}
 use Rattle.machine.specs.Machine.{Machine, at as machine_at, fresh, run}
 use Rattle.machine.specs.Memories.{Assembly, assembly, machine_cells}
-use Rattle.machine.specs.declared.Carried.{Carried}
-use Rattle.machine.specs.declared.Carried.TheVariants.{Never, At}
 use Rattle.machine.specs.declared.State.{State}
 
 -- The rule for sums of all calls that run records (document 02, W8)
@@ -38,7 +36,7 @@ run_assembly code m budget =
     settle (assembly_tests code m)
     (λ P. report budget (assembly_run P m budget)) (λ P. (assembly_run P m budget).leaves.memory) m
 
--- ---- The tests of the calls on machine code
+-- ---- The tests of both calls on machine code
 
 -- 11: "D or n above 64, or slice length wrong": "machine memory has D + 1 + n cells"
 abbrev pub memory_fits : ℕ → ℕ → List ℤ → Bool
@@ -54,20 +52,10 @@ machine_tests code memory D n =
 
 -- ---- A run of machine code from a state, and what a call tells of it
 
--- A state (the code's own struct, machine/src/lib.rt) is a position, a stack size, a count, a mark, and a record "that
--- it was carried and at which count" (document 02, W9): `At` a count, or `Never`, as "a state never carried has none".
+-- A state (the code's own struct, machine/src/lib.rt) is a position, a stack size, a count and a mark.
 -- "A fresh machine has position 0, stack empty, count 0"; its stack has held nothing
 abbrev pub fresh_state : State
-fresh_state = record { position = 0; size = 0; count = 0; mark = 0; carried = Never }
-
--- The state with another record, and nothing else changed
-abbrev pub with_record : Carried → State → State
-with_record c s = record { position = s.position; size = s.size; count = s.count; mark = s.mark; carried = c }
-
--- Whether a state has no record
-abbrev pub never_carried : Carried → Bool
-never_carried Never = true
-never_carried (At k) = false
+fresh_state = record { position = 0; size = 0; count = 0; mark = 0 }
 
 -- The run from a state, by a rule for sums. "Each budget counts from the pause"
 abbrev pub run_from : SumRule → MachineCode → List ℤ → ℕ → State → ℕ → Result (Machine (List ℤ))
@@ -83,22 +71,15 @@ pub data Told : Type 0 where
   finished : Ran → Told
   paused : State → Told
 
--- "A spent machine run hands out its position, stack size, count and depth mark", and the record as it was: "later
--- pauses keep that record"
-unfoldable pub tell : Carried → End → ℕ → ℕ → Machine (List ℤ) → Told
-tell c End.done k mark s = finished (ran End.done k mark)
-tell c End.spent k mark s =
-    paused (record { position = s.position; size = s.size; count = k; mark = mark; carried = c })
-tell c (fault e) k mark s = finished (ran (fault e) k mark)
-
--- What is told, with another record in its state
-unfoldable pub recorded : Carried → Told → Told
-recorded c (finished r) = finished r
-recorded c (paused s) = paused (with_record c s)
+-- "A spent machine run hands out its position, stack size, count and depth mark"
+unfoldable pub tell : End → ℕ → ℕ → Machine (List ℤ) → Told
+tell End.done k mark s = finished (ran End.done k mark)
+tell End.spent k mark s = paused (record { position = s.position; size = s.size; count = k; mark = mark })
+tell (fault e) k mark s = finished (ran (fault e) k mark)
 
 -- The count goes on from the state's
 abbrev pub piece_told : State → ℕ → Result (Machine (List ℤ)) → Told
-piece_told s budget r = tell s.carried r.end (s.count + (budget - r.left)) r.mark r.leaves
+piece_told s budget r = tell r.end (s.count + (budget - r.left)) r.mark r.leaves
 
 -- ---- 15: a state that cannot go on
 
@@ -140,17 +121,6 @@ go_on_by sum code memory D n s budget =
 -- The call
 abbrev pub go_on : List ℕ → List ℤ → ℕ → ℕ → State → ℕ → Answer Told × List ℤ
 go_on code memory D n s budget = go_on_by sums code memory D n s budget
-
--- ---- carry
-
--- "Carries it over and records in it that it was carried and at which count"; "changes .. nothing else in the state".
--- Refusals: 9, 10, 11; "15 under W7's conditions, the budget read as 0"; "16, next, a state already carried". Of the
--- memory it asks for the length alone
-unfoldable pub carry : List ℕ → List ℤ → ℕ → ℕ → State → Answer State
-carry code memory D n s =
-    and_then (state_tests code memory D n s 0) (λ P.
-    unless never_carried s.carried refuse 16 at 0 else
-    gives (with_record (At s.count) s))
 
 -- ---- run_machine
 

@@ -1,6 +1,6 @@
 -- Small codes that come to each end, on both memories (document 01, "Executors"). They name no variable and no address,
 -- so the same rows serve assembly and machine code. Then sums past a limit (document 02, W8), where the calls decline
--- (document 01, "When a call declines"), runs in pieces (W7), and runs carried over (W9).
+-- (document 01, "When a call declines"), and runs in pieces (W7).
 use Rattle.std.specs.Prelude.{◌≡◌, ℕ, ◌+◌, ◌-◌, List, [], ◌∷◌, ◌++◌, map, ℤ, pos, negsuc, replicate}
 use Rattle.base.specs.Answers.{Answer, gives, refused}
 use Rattle.base.specs.Ends.{short, full, out_of_range, astray, End, done, spent, fault, Result, result, Ran, ran}
@@ -12,10 +12,8 @@ use Rattle.record.specs.declared.Address.{Address}
 use Rattle.machine.specs.Machine.{Machine, at, fresh, run}
 use Rattle.machine.specs.Memories.{Assembly, assembly, machine_cells}
 use Rattle.machine.specs.Calls.{sums, run_assembly, fresh_state, Told, finished, paused, go_on, run_machine}
-use Rattle.machine.specs.Calls.{go_on_by, with_record, carry, without_state}
+use Rattle.machine.specs.Calls.{without_state}
 use Rattle.machine.specs.Pieces.{in_pieces}
-use Rattle.machine.specs.Carrying.{mixed_run}
-use Rattle.machine.specs.declared.Carried.TheVariants.{Never, At}
 use Rattle.machine.specs.declared.State.{State}
 
 -- What is lent: to assembly a stack of some cells, each 8, and a store of some cells, each 7
@@ -166,8 +164,7 @@ pub record MachineDeclines : Type 0 where
 -- ---- In pieces (document 02, W7)
 
 abbrev pub state : ℕ → ℕ → ℕ → ℕ → State
-state position size count mark =
-    record { position = position; size = size; count = count; mark = mark; carried = Never }
+state position size count mark = record { position = position; size = size; count = count; mark = mark }
 
 -- MLOADI 5, MLOADI 7, MADD, with two stack cells and no variable
 abbrev pub five_and_seven : List ℕ
@@ -248,102 +245,3 @@ pub record StateDeclines : Type 0 where
   pub nine_fifteen : go_on (replicate 4 0x50) (memory 3) 2 0 (state 9 9 4294967295 8) 9 ≡ (refused 9 0, memory 3)
   pub ten_fifteen : go_on (five 0x52 1) (memory 3) 2 0 (state 9 9 4294967295 8) 9 ≡ (refused 10 0, memory 3)
   pub eleven_fifteen : go_on (five 0x52 0) (memory 4) 2 0 (state 9 9 4294967295 8) 9 ≡ (refused 11 0, memory 4)
-
--- ---- Carried over (document 02, W9)
-
--- MLOADI 2147483646, MLOADI 5, MADD, MJMP 0, with two stack cells and no variable: the sum at tick 3 is past the limit
-abbrev pub past_the_limit : List ℕ
-past_the_limit = 0x50 ∷ 0xfe ∷ 0xff ∷ 0xff ∷ 0x7f ∷ (five 0x50 5 ++ (five 0x52 0 ++ five 0x54 0))
-
--- its memory with one number on the stack; with both; with the sum held
-abbrev pub with_one : List ℤ
-with_one = pos 8 ∷ pos 2147483646 ∷ pos 8 ∷ []
-
-abbrev pub with_two : List ℤ
-with_two = pos 5 ∷ pos 2147483646 ∷ pos 8 ∷ []
-
-abbrev pub with_held : List ℤ
-with_held = pos 5 ∷ pos 2147483647 ∷ pos 8 ∷ []
-
--- a run of it by the stopping rule; the state of a pause carried over; a run that goes on from it
-abbrev pub stopping_run : ℕ → Answer Told × List ℤ
-stopping_run budget = go_on_by stopping past_the_limit at_first 2 0 fresh_state budget
-
-abbrev pub carry_from : List ℤ → State → Answer State
-carry_from memory s = carry past_the_limit memory 2 0 s
-
-abbrev pub carried_on : List ℤ → State → ℕ → Answer Told × List ℤ
-carried_on memory s budget = go_on past_the_limit memory 2 0 s budget
-
--- carried over at a count, or ended out of range at one
-abbrev pub carried_at : ℕ → State → State
-carried_at k s = with_record (At k) s
-
-abbrev pub out_at : ℕ → ℕ → Told
-out_at count mark = finished (ran (fault out_of_range) count mark)
-
-pub record CarriesOver : Type 0 where
-  -- paused before the sum is due, carried over at 1: a later pause keeps the record, and the sum is held
-  pub before : Gives (stopping_run 1) (paused (state 1 1 1 1)) with_one
-  pub before_carried : carry_from with_one (state 1 1 1 1) ≡ gives (carried_at 1 (state 1 1 1 1))
-  pub before_on : Gives (carried_on with_one (carried_at 1 (state 1 1 1 1)) 1) (paused (carried_at 1 (state 2 2 2 2)))
-      with_two
-  pub before_mixed_on : Gives (mixed_run past_the_limit at_first 2 0 1 2) (paused (state 2 2 2 2)) with_two
-  pub before_done : Gives (carried_on with_two (carried_at 1 (state 2 2 2 2)) 8) (done_at 4 2) with_held
-  pub before_mixed : Gives (mixed_run past_the_limit at_first 2 0 1 10) (done_at 4 2) with_held
-  -- paused where the sum is due, carried over at 2: it is held too
-  pub due : Gives (stopping_run 2) (paused (state 2 2 2 2)) with_two
-  pub due_carried : carry_from with_two (state 2 2 2 2) ≡ gives (carried_at 2 (state 2 2 2 2))
-  pub due_on : Gives (carried_on with_two (carried_at 2 (state 2 2 2 2)) 8) (done_at 4 2) with_held
-  pub due_mixed : Gives (mixed_run past_the_limit at_first 2 0 2 10) (done_at 4 2) with_held
-  -- after the sum there is no pause that the stopping rule reaches: the run has ended at it, as up to tick 3 it does
-  -- by the mixed rule
-  pub after : Gives (stopping_run 3) (out_at 3 2) with_two
-  pub after_mixed : Gives (mixed_run past_the_limit at_first 2 0 3 10) (out_at 3 2) with_two
-  -- a pause there of a run started after W8 is carried over as well
-  pub after_held : Gives (run_machine past_the_limit at_first 2 0 3) (paused (state 3 1 3 2)) with_held
-  pub after_carried : carry_from with_held (state 3 1 3 2) ≡ gives (carried_at 3 (state 3 1 3 2))
-  pub after_on : Gives (carried_on with_held (carried_at 3 (state 3 1 3 2)) 0) (paused (carried_at 3 (state 3 1 3 2)))
-      with_held
-  -- carried over at 0, and gone on as a run started after W8
-  pub at_0 : carry_from at_first fresh_state ≡ gives (carried_at 0 fresh_state)
-  pub at_0_on : carried_on at_first (carried_at 0 fresh_state) 10 ≡ run_machine past_the_limit at_first 2 0 10
-  pub at_0_paused : Gives (carried_on at_first (carried_at 0 fresh_state) 2) (paused (carried_at 0 (state 2 2 2 2)))
-      with_two
-  -- a count at which no budget but 0 is left, and a position that equals the end, are carried over
-  pub at_limits : carry_from at_first (state 4 2 4294967295 2) ≡ gives (carried_at 4294967295 (state 4 2 4294967295 2))
-
--- ---- Where carry declines: 9, 10, 11, 15, 16
-
--- on a jump to itself, with D 2 and no variable
-abbrev pub carry_state : State → Answer State
-carry_state s = carry forever (memory 3) 2 0 s
-
--- Number and place. Where two refusals are due, the first in order is given.
-pub record CarryDeclines : Type 0 where
-  -- 9: 4 bytes; 10: `52 01 00 00 00`, and after MLOADI 0, at index 1; 11: 4 cells
-  pub nine : carry (replicate 4 0x50) (memory 3) 2 0 (state 0 1 1 1) ≡ refused 9 0
-  pub ten : carry (five 0x52 1) (memory 3) 2 0 (state 0 1 1 1) ≡ refused 10 0
-  pub ten_second : carry (five 0x50 0 ++ five 0x52 1) (memory 3) 2 0 (state 0 1 1 1) ≡ refused 10 1
-  pub eleven : carry forever (memory 4) 2 0 (state 0 1 1 1) ≡ refused 11 0
-  -- 15: a position past the end; a stack size above the mark; a mark above D; a count past 4294967295, which no number
-  -- of 32 bits is
-  pub fifteen_position : carry_state (state 2 0 0 0) ≡ refused 15 0
-  pub fifteen_size : carry_state (state 0 2 0 1) ≡ refused 15 0
-  pub fifteen_mark : carry_state (state 0 0 0 3) ≡ refused 15 0
-  pub fifteen_count : carry_state (state 0 0 4294967296 0) ≡ refused 15 0
-  pub not_fifteen : carry_state (state 1 2 4294967295 2) ≡ gives (carried_at 4294967295 (state 1 2 4294967295 2))
-  -- 16: carried over before, at the state's count, at an earlier one, at a later one, at 0
-  pub sixteen : carry_state (carried_at 7 (state 0 0 7 0)) ≡ refused 16 0
-  pub sixteen_earlier : carry_state (carried_at 5 (state 0 0 7 0)) ≡ refused 16 0
-  pub sixteen_later : carry_state (carried_at 9 (state 0 0 7 0)) ≡ refused 16 0
-  pub sixteen_at_0 : carry_state (carried_at 0 fresh_state) ≡ refused 16 0
-  -- 9, and 10; 10, and 11; 11, and 15; 15, and 16
-  pub nine_ten : carry (five 0x52 1 ++ (0x50 ∷ [])) (memory 3) 2 0 (state 0 1 1 1) ≡ refused 9 0
-  pub ten_eleven : carry (five 0x52 1) (memory 4) 2 0 (state 0 1 1 1) ≡ refused 10 0
-  pub eleven_fifteen : carry forever (memory 4) 2 0 (state 9 9 0 8) ≡ refused 11 0
-  pub fifteen_sixteen : carry_state (carried_at 7 (state 2 0 7 0)) ≡ refused 15 0
-  -- 9, and 16; 10, and 16; 11, and 16: the state was carried over before
-  pub nine_sixteen : carry (replicate 4 0x50) (memory 3) 2 0 (carried_at 0 (state 0 1 1 1)) ≡ refused 9 0
-  pub ten_sixteen : carry (five 0x52 1) (memory 3) 2 0 (carried_at 0 (state 0 1 1 1)) ≡ refused 10 0
-  pub eleven_sixteen : carry forever (memory 4) 2 0 (carried_at 0 (state 0 1 1 1)) ≡ refused 11 0

@@ -3,12 +3,9 @@
 use Rattle.std.specs.Prelude.{◌≡◌, ◌↔◌, ℕ, ◌+◌, ◌≤◌, List, [], ◌∷◌, ℤ, length}
 use Rattle.base.specs.Answers.{Answer, gives, refused, settle}
 use Rattle.base.specs.Ends.{Ran, report}
-use Rattle.word.specs.Sums.{SumRule, Steady, AlikeBelow}
 use Rattle.record.specs.Records.{MachineCode}
 use Rattle.machine.specs.Calls.{sums, machine_tests, fresh_state, run_from, machine_run, Told, finished, paused}
-use Rattle.machine.specs.Calls.{piece_told, Unfit, state_tests, go_on_by, go_on, run_machine, ran_of}
-use Rattle.machine.specs.Calls.{without_state}
-use Rattle.machine.specs.Claims.{ahead}
+use Rattle.machine.specs.Calls.{piece_told, Unfit, state_tests, go_on, run_machine, ran_of, without_state}
 use Rattle.machine.specs.declared.State.{State}
 
 -- ---- Several calls in a row
@@ -21,15 +18,11 @@ after_piece (gives (paused s), memory) next = next s memory
 after_piece (gives (finished r), memory) next = (gives (finished r), memory)
 after_piece (refused number place, memory) next = (refused number place, memory)
 
--- A "list of one or more budgets", a first one and others after it: "the last answer and memory", by a rule for sums
-unfoldable pub in_pieces_by : SumRule → List ℕ → List ℤ → ℕ → ℕ → State → ℕ → List ℕ → Answer Told × List ℤ
-in_pieces_by sum code memory D n s b [] = go_on_by sum code memory D n s b
-in_pieces_by sum code memory D n s b (b' ∷ bs) =
-    after_piece (go_on_by sum code memory D n s b) (λ s' memory'. in_pieces_by sum code memory' D n s' b' bs)
-
--- the calls
-abbrev pub in_pieces : List ℕ → List ℤ → ℕ → ℕ → State → ℕ → List ℕ → Answer Told × List ℤ
-in_pieces code memory D n s b bs = in_pieces_by sums code memory D n s b bs
+-- A "list of one or more budgets", a first one and others after it: "the last answer and memory"
+unfoldable pub in_pieces : List ℕ → List ℤ → ℕ → ℕ → State → ℕ → List ℕ → Answer Told × List ℤ
+in_pieces code memory D n s b [] = go_on code memory D n s b
+in_pieces code memory D n s b (b' ∷ bs) =
+    after_piece (go_on code memory D n s b) (λ s' memory'. in_pieces code memory' D n s' b' bs)
 
 unfoldable pub total : ℕ → List ℕ → ℕ
 total b [] = b
@@ -44,21 +37,11 @@ abbrev pub Pieces : Type 0
 Pieces = (code : List ℕ) (memory : List ℤ) (D n b : ℕ) (bs : List ℕ) → total b bs ≤ 4294967295
     → in_pieces code memory D n fresh_state b bs ≡ run_machine code memory D n (total b bs)
 
--- So it is from every state, made up ones and refused ones too, where count and total together fit; and by every rule
--- for sums that does not look at the ticks left.
+-- So it is from every state, made up ones and refused ones too, where count and total together fit.
 abbrev pub PiecesFrom : Type 0
-PiecesFrom = (sum : SumRule) → Steady sum
-    → (code : List ℕ) (memory : List ℤ) (D n : ℕ) (s : State) (b : ℕ) (bs : List ℕ)
+PiecesFrom = (code : List ℕ) (memory : List ℤ) (D n : ℕ) (s : State) (b : ℕ) (bs : List ℕ)
     → s.count + total b bs ≤ 4294967295
-    → in_pieces_by sum code memory D n s b bs ≡ go_on_by sum code memory D n s (total b bs)
-
--- The law under it: a piece with a ticks by one rule and, from where it paused, one with b ticks by another are one
--- piece with a + b ticks by a third, which is the first up to the pause and the second after it.
-abbrev pub Joined : Type 0
-Joined = (sum first second : SumRule) (a b : ℕ) → AlikeBelow a (ahead b sum) first → AlikeBelow b sum second
-    → (code : List ℕ) (memory : List ℤ) (D n : ℕ) (s : State) → s.count + (a + b) ≤ 4294967295
-    → after_piece (go_on_by first code memory D n s a) (λ s' memory'. go_on_by second code memory' D n s' b)
-    ≡ go_on_by sum code memory D n s (a + b)
+    → in_pieces code memory D n s b bs ≡ go_on code memory D n s (total b bs)
 
 -- What goes on over the pause: a call from the state s tells a count and a mark that go on from the state's
 pub record Onward (s : State) (D budget : ℕ) (r : Ran) : Type 0 where
@@ -71,19 +54,16 @@ abbrev pub GoesOn : Type 0
 GoesOn = (code : List ℕ) (memory : List ℤ) (D n : ℕ) (s : State) (budget : ℕ) (p : Told) (memory' : List ℤ)
     → go_on code memory D n s budget ≡ (gives p, memory') → Onward s D budget (ran_of p)
 
--- What a pause hands out, by any rule for sums: its count is the one at which the budget was spent; its record is the
--- one before ("later pauses keep that record", W9); and with the memory that was left the state passes the tests under
--- every budget that its count leaves of 4294967295.
+-- What a pause hands out: its count is the one at which the budget was spent; and with the memory that was left the
+-- state passes the tests under every budget that its count leaves of 4294967295.
 pub record HandedOut (code : List ℕ) (D n : ℕ) (s : State) (budget : ℕ) (s' : State) (memory' : List ℤ) : Type 0 where
   pub all_spent : s'.count ≡ s.count + budget
-  pub record_kept : s'.carried ≡ s.carried
   pub passes : (more : ℕ) → s'.count + more ≤ 4294967295
       → (P : MachineCode) × (state_tests code memory' D n s' more ≡ gives P)
 
 abbrev pub HandsOut : Type 0
-HandsOut = (sum : SumRule) (code : List ℕ) (memory : List ℤ) (D n : ℕ) (s : State) (budget : ℕ) (s' : State)
-    (memory' : List ℤ)
-    → go_on_by sum code memory D n s budget ≡ (gives (paused s'), memory') → HandedOut code D n s budget s' memory'
+HandsOut = (code : List ℕ) (memory : List ℤ) (D n : ℕ) (s : State) (budget : ℕ) (s' : State) (memory' : List ℤ)
+    → go_on code memory D n s budget ≡ (gives (paused s'), memory') → HandedOut code D n s budget s' memory'
 
 -- "It refuses with 15, after 11," a state that is unfit in one of the four ways (Calls: Unfit), and no other; else the
 -- state is run.

@@ -1,20 +1,17 @@
-// The executor of machine code: the calls `run_machine` and `go_on`, their tests and their loop, and `carry`. The stack
-// and the variables are cells of one lent slice. A call that runs tests what it is given, then steps until the run
-// ends, from a fresh machine or from the state of a paused run. `carry` makes the same tests of such a state, and
-// records in it that it was carried over.
+// The executor of machine code: the calls `run_machine` and `go_on`, their tests and their loop. The stack and the
+// variables are cells of one lent slice. A call tests what it is given, then steps until the run ends, from a fresh
+// machine or from the state of a paused run.
 ghost use Rattle.std.specs.Prelude.{◌≡◌, ◌&&◌, ℕ, ◌+◌, ◌≤◌, leb, eqb, length};
 ghost use Rattle.base.specs.Answers.{gives, and_then};
 ghost use Rattle.base.specs.Code.{run_answer, count_answer};
-ghost use Rattle.machine.specs.Calls.{machine_tests, state_fits, state_tests, with_record, go_on, carry};
-ghost use Rattle.machine.specs.Calls.{run_machine, without_state};
-ghost use Rattle.machine.specs.Code.{piece_answer, carry_answer};
-ghost use Rattle.machine.specs.declared.Carried.TheVariants.{Never};
+ghost use Rattle.machine.specs.Calls.{machine_tests, state_fits, state_tests, go_on, run_machine, without_state};
+ghost use Rattle.machine.specs.Code.{piece_answer};
 ghost use Rattle.machine_step.specs.Code.{halted_result};
 ghost use Rattle.machine_step.specs.Steps.{MachinePassed};
 ghost use Rattle.machine_run.specs.Runs.{Tested, TestedState, Runs, Starts};
 
 use base::{Count, End, Run};
-use machine::{Carried, Carry, Piece, State};
+use machine::{Piece, State};
 use machine_step::{Halted, Machine, Step};
 
 // Refusal 11's test: D and n at most 64, and D + 1 + n cells.
@@ -120,8 +117,8 @@ fn finish(
     }
 }
 
-// Runs the `last` records of code that passed the tests, from a state that passed them with a budget. What it hands out
-// says nothing of carrying over. `limit` is the state's count and the budget together.
+// Runs the `last` records of code that passed the tests, from a state that passed them with a budget. `limit` is the
+// state's count and the budget together.
 fn run_from(
     code: &[u8],
     memory: &mut [i32],
@@ -134,7 +131,7 @@ fn run_from(
     ensures { (n budget : ℕ)
         → TestedState code.now memory.old depth n state budget limit last
         → (piece_answer result, memory.new)
-        ≡ go_on code.now memory.old depth n (with_record Never state) budget }
+        ≡ go_on code.now memory.old depth n state budget }
 {
     finish(Machine::resumed(state), code, memory, depth, last, limit).piece()
 }
@@ -167,27 +164,7 @@ pub fn go_on(
         Count::Refused(refusal) => Piece::Refused(refusal),
         Count::Gives(last) => {
             let limit = state.count + budget;
-            let carried = state.carried;
-            run_from(code, memory, depth as usize, last, state, limit).recorded(carried)
-        }
-    }
-}
-
-// Carries the state of a paused run over to the rule by which sums hold, with the code, memory, D and n that `go_on`
-// takes: records in it that it was carried over, and at which count. Nothing else in it changes, and no memory cell.
-// Refuses 9, 10, 11, 15 as `go_on` with a budget of 0 does, and 16.
-pub fn carry(code: &[u8], memory: &[i32], depth: u64, cells: u64, state: State) -> Carry
-    ensures result_value { carry_answer result
-        ≡ carry code.now memory.now depth cells state }
-    ensures memory_value { memory.now ≡ memory.now }
-{
-    match test_state(code, memory, depth, cells, state, 0) {
-        Count::Refused(refusal) => Carry::Refused(refusal),
-        Count::Gives(_) => {
-            if !state.never_carried() {
-                return Carry::decline(16, 0);
-            }
-            Carry::Gives(state.with_record(Carried::At(state.count)))
+            run_from(code, memory, depth as usize, last, state, limit)
         }
     }
 }

@@ -27,9 +27,8 @@ use Rattle.record.proofs.Tested.{records_length}
 use Rattle.machine.specs.Machine as Rules
 use Rattle.machine.specs.Machine.{Memory, at, fresh, land, jump, act, after, run}
 use Rattle.machine.specs.Memories.{machine_cells}
-use Rattle.machine.specs.Calls.{sums, with_record, run_from, Told, tell, piece_told}
+use Rattle.machine.specs.Calls.{sums, run_from, Told, tell, piece_told}
 use Rattle.machine.specs.Code.{piece_answer}
-use Rattle.machine.specs.declared.Carried.TheVariants.{Never}
 use Rattle.machine.specs.declared.State.{State}
 use Rattle.machine.specs.declared.Piece as Machined
 use Rattle.machine.proofs.Exact.{left_most}
@@ -296,7 +295,7 @@ told D o P budget m r m' is-fresh answer within same =
         ∙ ap (λ (s : Machine). run_on D o P (budget - s.count) s m) is-fresh
         ∙ ap (λ (n : ℕ). run sums D o P n 0 (fresh m)) (sub-zero budget)
 
--- Of a run of machine code from a state, likewise, where the count is within its limit, its record left out.
+-- Of a run of machine code from a state, likewise, where the count is within its limit.
 module _ (D : ℕ) (P : MachineCode) (budget : ℕ) (s : State) (m : List ℤ) where
   abbrev R : Result (Rules.Machine (List ℤ))
   R = run_from sums P m D s budget
@@ -304,15 +303,14 @@ module _ (D : ℕ) (P : MachineCode) (budget : ℕ) (s : State) (m : List ℤ) w
   pub told_from : {limit : ℕ} {first : Machine} (a : Machined.Piece) (r : Halted) (m' : List ℤ)
       → first ≡ resumed_machine s → limit ≡ s.count + budget
       → piece_answer a
-      ≡ gives (tell Never (end_of r.end) r.machine.count r.machine.mark (machine_of r.machine m'))
+      ≡ gives (tell (end_of r.end) r.machine.count r.machine.mark (machine_of r.machine m'))
       → r.machine.count ≤ limit
       → halted_result limit r m' ≡ run_on D (machine_cells D) P (limit - first.count) first m
-      → ◌≡◌ {A = Answer Told × List ℤ} (piece_answer a, m')
-      (gives (piece_told (with_record Never s) budget R), R.leaves.memory)
+      → ◌≡◌ {A = Answer Told × List ℤ} (piece_answer a, m') (gives (piece_told s budget R), R.leaves.memory)
   told_from {limit = limit} a r m' is-first is-limit answer within same =
       (λ i. (answer i, m'))
-      ∙ (λ i. (gives (tell Never (end_of r.end) (count i) r.machine.mark (machine_of r.machine m')), m'))
-      ∙ (λ i. (gives (piece_told (with_record Never s) budget (whole i)), (whole i).leaves.memory))
+      ∙ (λ i. (gives (tell (end_of r.end) (count i) r.machine.mark (machine_of r.machine m')), m'))
+      ∙ (λ i. (gives (piece_told s budget (whole i)), (whole i).leaves.memory))
     where
       ticks : limit - s.count ≡ budget
       ticks = omega (arith, is-limit)

@@ -7,7 +7,6 @@ ghost use Rattle.word.specs.Targets.{target};
 ghost use Rattle.record.specs.Records.{LOADI, ADD, STORE};
 ghost use Rattle.machine.specs.Calls.{tell};
 ghost use Rattle.machine.specs.Code.{piece_answer};
-ghost use Rattle.machine.specs.declared.Carried.TheVariants.{Never};
 ghost use Rattle.machine_cells.specs.declared.Layout.TheVariants.{Upward, Downward};
 ghost use Rattle.machine_step.specs.Code.{fresh_machine, resumed_machine, stopped, moved, landed, machine_of};
 ghost use Rattle.machine_step.specs.Code.{step_of};
@@ -16,7 +15,7 @@ ghost use Rattle.machine_step.specs.Steps.{on_machine, MachineSteps, MachinePass
 ghost use Rattle.machine_step.specs.Steps.{assembly_of, on_assembly, AssemblySteps, AssemblyPassed};
 
 use base::{End, Run};
-use machine::{Carried, Piece, State};
+use machine::{Piece, State};
 use machine_cells::{Layout, Limits, save_at, save_in, value_at, value_in};
 use record::{Address, Variable};
 use word::Target;
@@ -285,11 +284,10 @@ impl Halted {
         }
     }
 
-    // What a call on machine code tells of it: the state where the run is spent, without a record, else its end, its
-    // count and its mark.
+    // What a call on machine code tells of it: the state where the run is spent, else its end, its count and its mark.
     pub fn piece(self) -> Piece
         ensures { (memory : List ℤ) → piece_answer result
-            ≡ gives (tell Never (end_of self.end) self.machine.count self.machine.mark
+            ≡ gives (tell (end_of self.end) self.machine.count self.machine.mark
             (machine_of self.machine memory)) }
     {
         let end = self.end;
@@ -299,7 +297,6 @@ impl Halted {
                 size: self.machine.size,
                 count: self.machine.count,
                 mark: self.machine.mark,
-                carried: Carried::Never,
             }),
             _ => Piece::Ended {
                 end,

@@ -14,7 +14,7 @@ use Rattle.text.specs.Sizes.{depth, expression_names, condition_names, names, ho
 use Rattle.text.specs.Cases.{B·text, C·text, G·text, J·text}
 use Rattle.source.specs.Rules.{charge, tick, raise, lower, cell, assign, in_range, add, value, truth, loop, exec}
 use Rattle.source.specs.Rules.{end_of, result_of}
-use Rattle.source.specs.Calls.{source_tests, run_source_by}
+use Rattle.source.specs.Calls.{source_tests, run_source}
 use Rattle.source.specs.Cases.{zeros}
 use Rattle.source.proofs.Cases.{forever}
 use Rattle.record.specs.Records.{rename}
@@ -35,7 +35,7 @@ unfolding B·text zeros then' give and_then settle number_of number_at clamped h
     expression_of expression condition_of condition command_of command all_read read_text
     expression_records condition_records records expression_depth condition_depth depth
     expression_names condition_names names how_many
-    charge tick raise lower cell assign in_range add value truth loop exec end_of result_of source_tests run_source_by
+    charge tick raise lower cell assign in_range add value truth loop exec end_of result_of source_tests run_source
     rename record_operand acomp bcomp ccomp member once mentions addr_of entries
     decimal_by signed first_line name_text operand_text record_lines end_text run_line
     value_line value_lines run_lines refusal_line answer_lines
@@ -47,7 +47,7 @@ unfolding C·text zeros then' give and_then settle number_of number_at clamped h
     expression_of expression condition_of condition command_of command all_read read_text
     expression_records condition_records records expression_depth condition_depth depth
     expression_names condition_names names how_many
-    charge tick raise lower cell assign in_range add value truth loop exec end_of result_of source_tests run_source_by
+    charge tick raise lower cell assign in_range add value truth loop exec end_of result_of source_tests run_source
     rename record_operand acomp bcomp ccomp member once mentions addr_of entries
     decimal_by signed first_line name_text operand_text record_lines end_text run_line
     value_line value_lines run_lines answer_lines
@@ -59,7 +59,7 @@ unfolding G·text zeros then' give and_then settle number_of number_at clamped h
     expression_of expression condition_of condition command_of command all_read read_text
     expression_records condition_records records expression_depth condition_depth depth
     expression_names condition_names names how_many
-    charge tick raise lower cell assign in_range add value truth loop exec end_of result_of source_tests run_source_by
+    charge tick raise lower cell assign in_range add value truth loop exec end_of result_of source_tests run_source
     rename record_operand acomp bcomp ccomp member once mentions addr_of entries
     decimal_by signed first_line name_text operand_text record_lines end_text run_line
     value_line value_lines run_lines answer_lines

@@ -2,7 +2,7 @@
 // the product; `examples/pieces.c` uses it, since the pod's library has no call that runs. What each answers is said by
 // the contract of its call and by that of the function that packs it.
 use base::{Count, Preview, Run, copy_cells};
-use machine::{Carried, Carry, Piece, State};
+use machine::{Piece, State};
 use text::Reading;
 
 #[unsafe(no_mangle)]
@@ -34,19 +34,11 @@ pub extern "C" fn probe_load(table: &[u8], store: &[i32], depth: u64, memory: &m
     pod_packing::pack_count(count)
 }
 
-// The words of a state: position, stack size, count, mark, whether it was carried over (0: it was not), the count at
-// which it was (0 where it was not), and one that is not looked at and written as 0.
+// The words of a state: position, stack size, count, mark, and three that are not looked at and written as 0.
 const STATE_WORDS: usize = 7;
 
 fn number(word: u32) -> usize {
     word as usize
-}
-
-fn carried_of(was: u32, count: u32) -> Carried {
-    if was == 0 {
-        return Carried::Never;
-    }
-    Carried::At(count)
 }
 
 // The state in seven words; of another number of words, one that is refused.
@@ -57,7 +49,6 @@ fn state_of(words: &[u32]) -> State {
             size: 1,
             count: 0,
             mark: 0,
-            carried: Carried::Never,
         };
     }
     State {
@@ -65,7 +56,6 @@ fn state_of(words: &[u32]) -> State {
         size: number(words[1]),
         count: words[2],
         mark: number(words[3]),
-        carried: carried_of(words[4], words[5]),
     }
 }
 
@@ -83,20 +73,11 @@ fn put_first_four(state: State, words: &mut [u32]) {
     }
 }
 
-fn put_last_three(was: u32, count: u32, words: &mut [u32]) {
+fn put_last_three(words: &mut [u32]) {
     if words.len() == STATE_WORDS {
-        words[4] = was;
-        words[5] = count;
+        words[4] = 0;
+        words[5] = 0;
         words[6] = 0;
-    }
-}
-
-fn put_state(state: State, words: &mut [u32]) {
-    put_first_four(state, words);
-    let carried = state.carried;
-    match carried {
-        Carried::Never => put_last_three(0, 0, words),
-        Carried::At(count) => put_last_three(1, count, words),
     }
 }
 
@@ -106,7 +87,8 @@ fn put_piece(piece: Piece, words: &mut [u32]) -> u64 {
         Piece::Refused(_) => pod_packing::pack_run(piece.without_state()),
         Piece::Ended { .. } => pod_packing::pack_run(piece.without_state()),
         Piece::Paused(state) => {
-            put_state(state, words);
+            put_first_four(state, words);
+            put_last_three(words);
             pod_packing::pack_run(piece.without_state())
         }
     }
@@ -136,24 +118,6 @@ pub extern "C" fn probe_go_on(
 ) -> u64 {
     let piece: Piece = machine_run::go_on(code, memory, depth, cells, state_of(state), budget);
     put_piece(piece, state)
-}
-
-#[unsafe(no_mangle)]
-pub extern "C" fn probe_carry(
-    code: &[u8],
-    memory: &[i32],
-    depth: u64,
-    cells: u64,
-    state: &mut [u32],
-) -> u64 {
-    let carry: Carry = machine_run::carry(code, memory, depth, cells, state_of(state));
-    match carry {
-        Carry::Refused(refusal) => pod_packing::pack_count(Count::Refused(refusal)),
-        Carry::Gives(next) => {
-            put_state(next, state);
-            0
-        }
-    }
 }
 
 #[unsafe(no_mangle)]

@@ -6,25 +6,19 @@ use lib.ListN.{length}
 use borrow.Author.Tests.{eq-eqb, ne_eqb}
 use Rattle.base.specs.Answers.{gives, refused, and_then, settle}
 use Rattle.base.specs.Ends.{report}
-use Rattle.word.specs.Sums.{SumRule}
 use Rattle.text.specs.Syntax.{Command}
 use Rattle.text.specs.Reading.{read_text}
 use Rattle.source.specs.Rules.{Store, run_rules}
-use Rattle.source.specs.Calls.{sums, source_tests, run_source_by, run_source}
-
--- by any rule for sums
-pub source_runs_by : (sum : SumRule) (text : List ℕ) (c : Command) (store : Store) (budget : ℕ)
-    → read_text text ≡ gives c → length store ≡ 64 → let r = run_rules sum c budget store in
-    run_source_by sum text store budget ≡ (gives (report budget r), r.leaves)
-unfolding run_source_by source_tests settle and_then
-source_runs_by sum text c store budget read long = simp (read, eq-eqb (length store) 64 long)
+use Rattle.source.specs.Calls.{sums, source_tests, run_source}
 
 pub source_runs : (text : List ℕ) (c : Command) (store : Store) (budget : ℕ) → read_text text ≡ gives c
-    → length store ≡ 64 → let r = run_rules sums c budget store in
-    run_source text store budget ≡ (gives (report budget r), r.leaves)
-source_runs = source_runs_by sums
+    → length store ≡ 64
+    → run_source text store budget
+    ≡ (gives (report budget (run_rules sums c budget store)), (run_rules sums c budget store).leaves)
+unfolding run_source source_tests settle and_then
+source_runs text c store budget read long = simp (read, eq-eqb (length store) 64 long)
 
 pub source_declines : (text : List ℕ) (c : Command) (store : Store) (budget : ℕ) → read_text text ≡ gives c
     → (length store ≡ 64 → ⊥) → run_source text store budget ≡ (refused 8 0, store)
-unfolding run_source_by source_tests settle and_then
+unfolding run_source source_tests settle and_then
 source_declines text c store budget read short = simp (read, ne_eqb (length store) 64 short)

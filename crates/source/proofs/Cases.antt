@@ -19,7 +19,7 @@ use Rattle.text.specs.Cases.{texts}
 use Rattle.source.specs.Rules.{Store, start, run_rules}
 use Rattle.source.specs.Rules.{charge, tick, raise, lower, cell, assign, in_range, add, value, truth, loop, exec}
 use Rattle.source.specs.Rules.{end_of, result_of}
-use Rattle.source.specs.Calls.{sums, source_tests, run_source_by, preview_source}
+use Rattle.source.specs.Calls.{sums, source_tests, run_source, preview_source}
 use Rattle.source.specs.Cases.{zeros, Tallies, MarkTickByTick, Holds, Forever, Declines, Previews}
 use Rattle.source.specs.Cases.{PreviewDeclines}
 use Rattle.source.proofs.Calls.{source_runs}
@@ -29,14 +29,14 @@ unfolding texts A·text B·text C·text D·text E·text F·text G·text H·text 
     then' give and_then settle number_of number_at clamped holding
     expression_byte condition_byte command_byte decline there due pass operand number_due number
     expression_of expression condition_of condition command_of command all_read read_text
-    charge tick raise lower cell assign in_range add value truth loop exec end_of result_of source_tests run_source_by
+    charge tick raise lower cell assign in_range add value truth loop exec end_of result_of source_tests run_source
 tallies = refl
 
 pub mark_tick_by_tick : MarkTickByTick
 unfolding zeros then' give and_then settle byte_number clamped holding
     expression_byte condition_byte command_byte decline there due pass operand number_due number
     expression_of expression condition_of condition command_of command all_read read_text
-    charge tick raise lower cell assign in_range add value truth loop exec end_of result_of source_tests run_source_by
+    charge tick raise lower cell assign in_range add value truth loop exec end_of result_of source_tests run_source
 mark_tick_by_tick = refl
 
 -- ---- Sums past a limit
@@ -45,7 +45,7 @@ pub holds : Holds
 unfolding G·text then' give and_then settle number_of number_at byte_number limited stopping clamped holding
     expression_byte condition_byte command_byte decline there due pass operand number_due number
     expression_of expression condition_of condition command_of command all_read read_text
-    charge tick raise lower cell assign in_range add value truth loop exec end_of result_of source_tests run_source_by
+    charge tick raise lower cell assign in_range add value truth loop exec end_of result_of source_tests run_source
 holds = record {
   G = refl;
   G_stopped = refl;
@@ -87,7 +87,7 @@ pub declines : Declines
 unfolding B·text then' give and_then settle number_of number_at
     expression_byte condition_byte command_byte decline there due pass operand number_due number
     expression_of expression condition_of condition command_of command all_read read_text
-    source_tests run_source_by
+    source_tests run_source
 declines = record {
   eight = refl;
   eight_longer = refl;
@@ -102,14 +102,14 @@ unfolding then' give and_then settle previewed byte_number clamped holding
     expression_byte condition_byte command_byte decline there due pass operand number_due number
     expression_of expression condition_of condition command_of command all_read read_text
     charge tick raise lower cell assign in_range add value truth loop exec end_of result_of
-    source_tests run_source_by preview_source
+    source_tests run_source preview_source
 previews = refl
 
 pub preview_declines : PreviewDeclines
 unfolding B·text zeros then' give and_then settle previewed number_of number_at
     expression_byte condition_byte command_byte decline there due pass operand number_due number
     expression_of expression condition_of condition command_of command all_read read_text
-    source_tests run_source_by preview_source
+    source_tests run_source preview_source
 preview_declines = record {
   eight = refl;
   eight_longer = refl;

@@ -19,7 +19,7 @@ use Rattle.text.specs.Respelling.{expression_in_full, condition_in_full, in_full
 use Rattle.text.proofs.Respelling.{of_both}
 use Rattle.source.specs.Rules.{Store, start, tick, lower, assign, add, value, truth, loop, exec, result_of}
 use Rattle.source.specs.Rules.{run_rules}
-use Rattle.source.specs.Calls.{sums, source_tests, run_source_by, run_source, preview_source}
+use Rattle.source.specs.Calls.{sums, source_tests, run_source, preview_source}
 use Rattle.source.specs.Claims.{SameRuns}
 
 module _ (sum : SumRule) where
@@ -57,7 +57,7 @@ module _ (text other : List ℕ) (c d : Command) (e : read_text text ≡ gives c
   run store budget = ap (λ rule. result_of (rule (start budget store))) (same_runs sums c d r)
 
   pub run_same : (store : Store) (budget : ℕ) → run_source text store budget ≡ run_source other store budget
-  unfolding run_source_by source_tests and_then settle
+  unfolding run_source source_tests and_then settle
   run_same store budget =
       rw (e, f)
       (unless_same (eqb (length store) 64) 8 0 _ _ store (gives c) (gives d)

@@ -28,7 +28,7 @@ use Rattle.text.proofs.Longer.{command_longer}
 use Rattle.text_ends.specs.Ends.{PartEnds}
 use Rattle.text_ends.proofs.Longer.{ends_longer}
 use Rattle.source.specs.Rules.{Store, start, Outcomes, end_of, result_of}
-use Rattle.source.specs.Calls.{sums, source_tests, run_source_by, run_source, preview_source}
+use Rattle.source.specs.Calls.{sums, source_tests, run_source, preview_source}
 use Rattle.source.proofs.Calls.{source_runs}
 use Rattle.source.proofs.Ticks.{Low, low_exec}
 use Rattle.source_values.specs.Placed.{Read, placed}
@@ -65,7 +65,7 @@ module _ (text : List ℕ) (store : Store) where
     refuses = refused_first (source_tests text store) sizes (sym tested ∙ ap sizes_answer declines)
 
     pub run_declines : (refused why.number why.place, store) ≡ run_source text store budget
-    unfolding run_source_by
+    unfolding run_source
     run_declines = declined (source_tests text store) _ _ store refuses
 
     pub preview_declines : (refused why.number why.place, replicate 64 (pos 0)) ≡ preview_source text store budget

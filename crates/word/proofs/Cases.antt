@@ -1,8 +1,8 @@
--- The rules for sums and signed bytes at their limits, by computation (Cases: SumLimits, MixedTicks, ByteLimits).
+-- The rules for sums and signed bytes at their limits, by computation (Cases: SumLimits, ByteLimits).
 use mathlib.Core.Path.{refl}
-use Rattle.word.specs.Sums.{limited, stopping, clamped, holding, mixed}
+use Rattle.word.specs.Sums.{limited, stopping, clamped, holding}
 use Rattle.word.specs.Numbers.{byte_number}
-use Rattle.word.specs.Cases.{SumLimits, MixedTicks, ByteLimits}
+use Rattle.word.specs.Cases.{SumLimits, ByteLimits}
 
 pub sum_limits : SumLimits
 unfolding limited stopping clamped holding
@@ -20,10 +20,6 @@ sum_limits = record {
   far_below = refl;
   far_below_held = refl;
 }
-
-pub mixed_ticks : MixedTicks
-unfolding limited stopping clamped holding mixed
-mixed_ticks = record { first = refl; second = refl; third = refl }
 
 pub byte_limits : ByteLimits
 unfolding byte_number

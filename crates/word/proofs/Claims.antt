@@ -1,24 +1,22 @@
 -- The claims of specs/Claims.antt.
-use mathlib.Core.Path.{◌≡◌, refl, sym, ap, ◌∙◌}
-use mathlib.Core.Logic.{◌⊎◌, inl, inr}
+use mathlib.Core.Path.{◌≡◌, refl, ap, ◌∙◌}
 use mathlib.Core.Bool.{Bool, true, false}
 use mathlib.Core.List.{[], ◌∷◌}
-use Prim.Native.Nat.{ℕ, zero, suc, ◌-◌, ◌≤◌, ◌<◌, ◌/◌, ◌%◌}
+use Prim.Native.Nat.{ℕ, ◌/◌, ◌%◌}
 use native.Mathlib.Omega.{arith}
 use lib.IntN.{ℤ, pos, negsuc, ◌+ℤ◌}
-use lib.Dec.{eqb, leb}
+use lib.Dec.{eqb}
 use lib.Signed.{lt_z}
-use borrow.Author.Tests.{eq-eqb, le-leb, lt-leb, leb-true, leb-false}
+use borrow.Author.Tests.{eq-eqb}
 use mir.Syntax.{w8, w32}
 use mir.Val.{to_z, of_z}
 use mir.Facts.{to_z-of_z, of_z-to_z, Fits-of_z, sfits_to_z}
 use Rattle.base.specs.Acts.{if◌then◌else◌}
 use Rattle.word.specs.Sums.{least, greatest, Sum, fits, out, limited, stopping, clamped, holding}
-use Rattle.word.specs.Sums.{mixed, AlikeBelow}
 use Rattle.word.specs.Numbers.{joined, number_of, number_at, split, bits_of, bytes_of, byte_number, byte_of}
 use Rattle.word.specs.Targets.{within, target}
-use Rattle.word.specs.Claims.{Exact, Held, SameWithin, SteadySums, ByTicks, Extremes}
-use Rattle.word.specs.Claims.{NumberOfBytes, BytesOfNumber, NumbersFit, SignedBytes, Jumps}
+use Rattle.word.specs.Claims.{Exact, Held, SameWithin, SteadySums, NumberOfBytes, BytesOfNumber}
+use Rattle.word.specs.Claims.{NumbersFit, SignedBytes, Jumps}
 use Rattle.word.proofs.Laws.{joined_again}
 
 -- Neither rule looks at the ticks left, by its definition.
@@ -71,46 +69,6 @@ same_within = record {
     either : (b : Bool) (s h : Sum) (z : ℤ) → s ≡ fits z → h ≡ fits z → (if b then s else h) ≡ fits z
     either true s h z e f = e
     either false s h z e f = f
-
--- Up to tick k the mixed rule is the stopping rule, after it the holding rule.
-pub by_ticks : ByTicks
-unfolding mixed
-by_ticks = record {
-  stops = λ budget k left x y h. simp (le-leb (budget - left) k h);
-  holds = λ budget k left x y h. simp (lt-leb (budget - left) k h);
-}
-
--- The two part at the greatest number and 1.
-differ : (left : ℕ) → stopping left greatest (pos 1) ≡ holding left greatest (pos 1) → ⊥
-unfolding stopping holding limited clamped
-differ left e = let no : ◌≡◌ {A = ℕ} 0 1 = cc in omega arith
-
-pub extremes : Extremes
-extremes budget k = record {
-  stops = (stops_from (leb budget k) refl, λ h left l x y. by_ticks.stops budget k left x y (omega arith));
-  holds = (holds_from budget k, holds_to);
-}
-  where
-    stops_from : (b : Bool) → leb budget k ≡ b → AlikeBelow budget (mixed budget k) stopping → budget ≤ k
-    stops_from true e h = leb-true budget k e
-    stops_from false e h =
-        let more : k < budget = leb-false budget k e in
-        let left : ℕ = budget - suc k in
-        let tick : k < budget - left = omega arith in
-        absurd (differ left (sym (h left (omega arith) greatest (pos 1))
-        ∙ by_ticks.holds budget k left greatest (pos 1) tick))
-
-    holds_from : (budget k : ℕ) → AlikeBelow budget (mixed budget k) holding → (k ≡ 0) ⊎ (budget ≡ 0)
-    holds_from budget zero h = inl refl
-    holds_from zero (suc k) h = inr refl
-    holds_from (suc left) (suc k) h =
-        let tick : suc left - left ≤ suc k = omega arith in
-        absurd (differ left (sym (by_ticks.stops (suc left) (suc k) left greatest (pos 1) tick)
-        ∙ h left (omega arith) greatest (pos 1)))
-
-    holds_to : (k ≡ 0) ⊎ (budget ≡ 0) → AlikeBelow budget (mixed budget k) holding
-    holds_to (inl e) left l x y = by_ticks.holds budget k left x y (omega arith)
-    holds_to (inr e) left l x y = by_ticks.holds budget k left x y (omega arith)
 
 -- A number's four bytes give that number: its bytes joined are its bits, and its bits are read back.
 pub number_of_bytes : NumberOfBytes

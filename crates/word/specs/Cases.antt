@@ -1,7 +1,6 @@
--- The two rules for sums at their limits, the rule that goes from one to the other, and signed bytes at their limits.
--- negsuc k is −1 − k.
+-- The two rules for sums at their limits, and signed bytes at theirs. negsuc k is −1 − k.
 use Rattle.std.specs.Prelude.{◌≡◌, pos, negsuc}
-use Rattle.word.specs.Sums.{fits, out, stopping, holding, mixed}
+use Rattle.word.specs.Sums.{fits, out, stopping, holding}
 use Rattle.word.specs.Numbers.{byte_number}
 
 -- A sum at each limit, one past it, and far past it, by both rules. The first number is the ticks left, at which
@@ -25,13 +24,6 @@ pub record SumLimits : Type 0 where
   -- −2147483648 + −2147483648
   pub far_below : stopping 0 (negsuc 2147483647) (negsuc 2147483647) ≡ out
   pub far_below_held : holding 0 (negsuc 2147483647) (negsuc 2147483647) ≡ fits (negsuc 2147483647)
-
--- 2147483647 + 1 in a run of 3 ticks whose sums stop up to tick 2 and hold after it (document 02, W9): at tick 1, after
--- which 2 are left, at tick 2, and at tick 3.
-pub record MixedTicks : Type 0 where
-  pub first : mixed 3 2 2 (pos 2147483647) (pos 1) ≡ out
-  pub second : mixed 3 2 1 (pos 2147483647) (pos 1) ≡ out
-  pub third : mixed 3 2 0 (pos 2147483647) (pos 1) ≡ fits (pos 2147483647)
 
 -- "one signed byte" (document 02, W1): `7F` is 127, `80` is −128, `FF` is −1.
 pub record ByteLimits : Type 0 where

@@ -1,10 +1,9 @@
 -- What is claimed of 32-bit numbers. The proof of the same spelling stands in proofs/.
-use Rattle.std.specs.Prelude.{◌≡◌, ◌⊎◌, ◌↔◌, ℕ, ◌-◌, ◌≤◌, ◌<◌, [], ◌∷◌, true, false, ℤ, pos, negsuc, ◌+ℤ◌}
+use Rattle.std.specs.Prelude.{◌≡◌, ℕ, ◌<◌, [], ◌∷◌, true, false, ℤ, pos, negsuc, ◌+ℤ◌}
 use Rattle.std.specs.Int.Signed.{lt_z}
 use Rattle.std.specs.Int.{w8, w32}
 use Rattle.std.proofs.Common.{SFits}
-use Rattle.word.specs.Sums.{least, greatest, fits, SumRule, stopping, holding, mixed, stopping_at, Extends}
-use Rattle.word.specs.Sums.{AlikeBelow, Steady}
+use Rattle.word.specs.Sums.{least, greatest, fits, SumRule, stopping, holding, stopping_at, Extends, Steady}
 use Rattle.word.specs.Numbers.{number_of, number_at, bytes_of, byte_number, byte_of}
 use Rattle.word.specs.Targets.{target}
 use Rattle.word.specs.declared.Target.TheVariants.{To}
@@ -36,21 +35,6 @@ pub record SameWithin : Type 0 where
 pub record SteadySums : Type 0 where
   pub stops : Steady stopping
   pub holds : Steady holding
-
--- "Sums at ticks up to that count stop and later ones hold" (document 02, W9), at every tick: the one after which
--- `left` are left has the number budget - left.
-pub record ByTicks : Type 0 where
-  pub stops : (budget k left : ℕ) (x y : ℤ) → budget - left ≤ k → mixed budget k left x y ≡ stopping left x y
-  pub holds : (budget k left : ℕ) (x y : ℤ) → k < budget - left → mixed budget k left x y ≡ holding left x y
-
--- Of a run with this budget the rule is the stopping rule at all ticks exactly where k is at least the budget, and the
--- holding rule at all ticks exactly where k is 0, or there is no tick.
-pub record AtExtremes (budget k : ℕ) : Type 0 where
-  pub stops : AlikeBelow budget (mixed budget k) stopping ↔ (budget ≤ k)
-  pub holds : AlikeBelow budget (mixed budget k) holding ↔ ((k ≡ 0) ⊎ (budget ≡ 0))
-
-abbrev pub Extremes : Type 0
-Extremes = (budget k : ℕ) → AtExtremes budget k
 
 -- ---- Bytes
 

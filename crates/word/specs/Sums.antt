@@ -1,5 +1,5 @@
--- Sums on 32-bit numbers (document 01, "Source rules and ticks"; document 02, W8 and W9).
-use Rattle.std.specs.Prelude.{◌≡◌, ℤ, pos, negsuc, ◌+ℤ◌, ℕ, ◌-◌, ◌<◌, eqb, leb}
+-- Sums on 32-bit numbers (document 01, "Source rules and ticks"; document 02, W8).
+use Rattle.std.specs.Prelude.{◌≡◌, ℤ, pos, negsuc, ◌+ℤ◌, ℕ, eqb}
 use Rattle.std.specs.Int.Signed.{lt_z}
 use Rattle.base.specs.Acts.{if◌then◌else◌}
 
@@ -38,14 +38,6 @@ clamped z = if lt_z z least then least else if lt_z greatest z then greatest els
 unfoldable pub holding : SumRule
 holding left x y = fits (clamped (x +ℤ y))
 
--- ---- Stopping first, then holding: the rule of a run that was carried over (document 02, W9)
-
--- In a run with this budget "sums at ticks up to that count stop and later ones hold". Ticks are numbered from 1, and a
--- sum's own tick counts: the tick after which `left` are left has the number budget - left. The two rules above are its
--- extremes (Claims: Extremes)
-unfoldable pub mixed : ℕ → ℕ → SumRule
-mixed budget k left x y = if leb (budget - left) k then stopping left x y else holding left x y
-
 -- ---- Rules compared
 
 -- Sums hold, but for the one with k ticks left after it, which stops: by this rule a run ends out of range exactly
@@ -56,11 +48,6 @@ stopping_at k left x y = if eqb left k then stopping left x y else holding left 
 -- The second rule gives what the first gives, wherever that fits
 abbrev pub Extends : SumRule → SumRule → Type 0
 Extends first second = (n : ℕ) (x y z : ℤ) → first n x y ≡ fits z → second n x y ≡ fits z
-
--- The two rules give the same wherever fewer ticks than the budget are left: a run with that budget asks its rule
--- nowhere else
-abbrev pub AlikeBelow : ℕ → SumRule → SumRule → Type 0
-AlikeBelow budget first second = (left : ℕ) → left < budget → (x y : ℤ) → first left x y ≡ second left x y
 
 -- A rule that does not look at the ticks left
 abbrev pub Steady : SumRule → Type 0

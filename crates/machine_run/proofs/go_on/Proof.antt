@@ -2,9 +2,8 @@
 use mathlib.Core.Path.{refl, sym, ap, ◌∙◌}
 use borrow.Author.Rules.{rules}
 use Rattle.base.specs.Code.{count_answer}
-use Rattle.machine.specs.Calls.{sums, state_tests}
+use Rattle.machine.specs.Calls.{state_tests}
 use Rattle.machine.proofs.Calls.{refused_by, state_declines, state_tested}
-use Rattle.machine.proofs.Carrying.{put_back}
 use Rattle.machine_run.proofs.go_on.Statement.{statement}
 use Rattle.machine_run.proofs.go_on.Tie as tie
 
@@ -27,21 +26,18 @@ declines c =
     let t : tie.After-test-state = search in
     let a : tie.Start = search in
     let s = a.args in
-    state_declines s.code.now s.memory.now s.depth s.cells s.state s.budget sums
+    state_declines s.code.now s.memory.now s.depth s.cells s.state s.budget
     (refused_by (state_tests s.code.now s.memory.now s.depth s.cells s.state s.budget)
     why.refusal.given.1 t.test-state.ensures)
 
 runs : tie.Need-returns-2
 runs c =
-    let told : tie.After-recorded = search in
     let run : tie.After-run-from = search in
     let arm : tie.After-last = search in
     let t : tie.After-test-state = search in
     let a : tie.Start = search in
-    let s = a.args in
-    put_back sums s.code.now s.memory.now s.depth s.cells s.state s.budget told.recorded.ensures
-    (run.run_from.ensures s.cells s.budget
-    (sym t.test-state.ensures ∙ ap count_answer arm.last.given.1, refl))
+    run.run_from.ensures a.args.cells a.args.budget
+    (sym t.test-state.ensures ∙ ap count_answer arm.last.given.1, refl)
 
 pub go_on_spec : {M : Type 1} → statement M
 go_on_spec =
@@ -57,7 +53,6 @@ go_on_spec =
     let t : tie.After-test-state = search in
     let a : tie.Start = search in
     (a.args.cells, a.args.budget, (sym t.test-state.ensures ∙ ap count_answer arm.last.given.1, refl)))
-    (λ c κs. search rules)
     (λ c. search rules)
     declines
     (λ c. search rules)

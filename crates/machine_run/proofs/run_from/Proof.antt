@@ -3,8 +3,6 @@
 use mathlib.Core.Path.{sym, subst, ◌∙◌}
 use native.Mathlib.Omega.{arith}
 use borrow.Author.Rules.{rules}
-use Rattle.machine.specs.Calls.{sums, with_record, state_tests}
-use Rattle.machine.specs.declared.Carried.TheVariants.{Never}
 use Rattle.machine.proofs.Calls.{state_tested, state_runs}
 use Rattle.machine_step.specs.declared.Machine.{Machine}
 use Rattle.machine_step.proofs.Running.{told_from}
@@ -40,7 +38,6 @@ finish_requires c κs =
     )
 
 ran : tie.Need-returns
-unfolding state_tests
 ran c n budget tested =
     let run : tie.After-finish = search in
     let made : tie.After-resumed = search in
@@ -50,7 +47,7 @@ ran c n budget tested =
     told_from s.depth f.records budget s.state s.memory.now c.piece.result run.finish.result _
     made.resumed.ensures tested.1 (c.piece.ensures _) run.finish.ensures.1
     (run.finish.ensures.0 n f.records f.cells_are f.code_is.given)
-    ∙ state_runs s.code.now s.memory.now s.depth n (with_record Never s.state) budget sums f.answer
+    ∙ state_runs s.code.now s.memory.now s.depth n s.state budget f.answer
 
 pub run_from_spec : {M : Type 1} → statement M
 run_from_spec =

@@ -3,8 +3,7 @@ use mathlib.Core.Path.{◌≡◌, ap}
 use Prim.Native.Nat.{ℕ, ◌+◌}
 use native.Mathlib.Omega.{arith}
 use borrow.Author.Rules.{rules}
-use Rattle.machine.specs.Calls.{fresh_state, with_record}
-use Rattle.machine.specs.declared.Carried.TheVariants.{Never}
+use Rattle.machine.specs.Calls.{fresh_state}
 use Rattle.machine.specs.declared.State.{State}
 use Rattle.machine.proofs.Calls.{without_state_of, fresh_tested, from_fresh}
 use Rattle.machine_run.proofs.run_tested.Statement.{statement}
@@ -33,8 +32,8 @@ ran c n tested =
     let a : tie.Start = search in
     let s = a.args in
     without_state_of c.without_state.ensures
-    (from_fresh s.code.now s.memory.now s.depth n s.budget
-    (ap (λ (s : State). with_record Never s) made.fresh.ensures) (run.run_from.ensures n s.budget (
+    (from_fresh s.code.now s.memory.now s.depth n s.budget made.fresh.ensures
+    (run.run_from.ensures n s.budget (
       fresh_tested s.code.now s.memory.now s.depth n s.budget made.fresh.ensures tested,
       from_0 made.fresh.ensures s.budget,
     )))

@@ -14,13 +14,12 @@ use Rattle.base.specs.declared.End.TheVariants.{Done, Spent, Short, Full, Astray
 use Rattle.base.specs.contracts.End.{the_type}
 use Rattle.machine.specs.Machine as Rules
 use Rattle.machine.specs.Calls.{finished, tell}
-use Rattle.machine.specs.declared.Carried.TheVariants.{Never}
 use Rattle.machine_step.specs.Code.{machine_of}
 use Rattle.machine_step.proofs.Halted.piece.Statement.{statement}
 use Rattle.machine_step.proofs.Halted.piece.Tie as tie
 
 told_end : (e : End) (k mark : ℕ) (s : Rules.Machine (List ℤ)) → (e ≡ Spent → ⊥)
-    → gives (finished (ran (end_of e) k mark)) ≡ gives (tell Never (end_of e) k mark s)
+    → gives (finished (ran (end_of e) k mark)) ≡ gives (tell (end_of e) k mark s)
 unfolding tell
 told_end Done k mark s h = refl
 told_end Spent k mark s h = absurd (h refl)
@@ -33,8 +32,7 @@ unfolding tell
 paused c memory =
     let s : tie.Start = search in
     let m = s.args.self.machine in
-    ap (λ (e : End). gives (tell Never (end_of e) m.count m.mark (machine_of m memory)))
-    (sym c.enum_told.given.1)
+    ap (λ (e : End). gives (tell (end_of e) m.count m.mark (machine_of m memory))) (sym c.enum_told.given.1)
 
 -- the ends but Spent, by their places in the enum
 abbrev others : List ℕ
