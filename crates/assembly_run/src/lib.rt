@@ -1,5 +1,7 @@
 // The executor of assembly: the call `run_assembly`, its tests and its loop. The stack is a lent slice, bottom first,
 // the variables a lent store. The call tests what it is given, then steps until the run ends.
+#![tactic(auto)]
+
 ghost use Rattle.std.specs.Prelude.{◌≡◌, ◌≤◌, length};
 ghost use Rattle.base.specs.Answers.{gives, and_then};
 ghost use Rattle.base.specs.Code.{run_answer, count_answer};

@@ -2,8 +2,8 @@
 -- and what it leaves of the part of the lent things that it works on; `put` puts that part back among them.
 use mathlib.Core.Path.{◌≡◌, sym, ap, ◌∙◌}
 use Prim.Native.Nat.{ℕ}
-use Rattle.base.specs.Acts.{Outcome, then', give}
-use Rattle.base.specs.Answers.{Answer, gives, refused, Refusal}
+use Rattle.base.specs.Acts.{then'}
+use Rattle.base.specs.Answers.{Answer, gives, refused}
 use Rattle.base.specs.Rows.{Row, call, answered}
 
 module _ {Lent Part A B : Type 0} (put : Part → Lent) (after : A → Row Lent B) where

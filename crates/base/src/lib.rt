@@ -1,5 +1,7 @@
 // The forms that everything is written in: acts, answers and refusals, ends, counts and marks, calls in a row,
 // previews; the types by which code answers, and copying. The forms stand in specs/.
+#![tactic(auto)]
+
 ghost use Rattle.std.specs.Prelude.{◌≡◌, ◌++◌, ◌≤◌, pos, length, drop, replicate};
 ghost use Rattle.base.specs.Answers.{refused};
 ghost use Rattle.base.specs.Code.{run_answer, preview_answer, count_answer};

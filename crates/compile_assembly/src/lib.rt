@@ -2,6 +2,8 @@
 // part's writer gets the buffer from where the part's records are to stand. Where a jump's distance is known only after
 // the records that it jumps over, these are written first, where they will stand. A test is measured first, which notes
 // the sizes (`sizes`) that its writer looks up.
+#![tactic(auto)]
+
 ghost use Rattle.std.specs.Prelude.{◌≡◌, ◌<◌, negsuc, get_or};
 ghost use Rattle.base.specs.Answers.{gives, and_then};
 ghost use Rattle.text.specs.Code.{sizes_answer};

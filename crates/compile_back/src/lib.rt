@@ -1,4 +1,6 @@
 // The call `go_back`: from machine records and their table back to assembly records.
+#![tactic(auto)]
+
 ghost use Rattle.std.specs.Prelude.{◌≡◌, ℕ, ◌<◌, ◌≤◌, length, get_or, replicate};
 ghost use Rattle.base.specs.Answers.{gives, and_then};
 ghost use Rattle.base.specs.Code.{count_answer};

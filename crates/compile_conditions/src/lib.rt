@@ -1,6 +1,8 @@
 // The records of expressions and conditions, written into a lent buffer. Each part's writer gets the buffer from where
 // the part's records are to stand. And's left side jumps over the right side, so And's writer is told how many records
 // And has, and looks up how many the left side has (`sizes`).
+#![tactic(auto)]
+
 ghost use Rattle.std.specs.Prelude.{◌≡◌, ◌+◌, ◌<◌, get_or};
 ghost use Rattle.base.specs.Acts.{if◌then◌else◌};
 ghost use Rattle.text.specs.Reading.{expression, condition};

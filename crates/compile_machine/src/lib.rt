@@ -1,4 +1,6 @@
 // The call `compile`: a text's machine code and its table.
+#![tactic(auto)]
+
 ghost use Rattle.std.specs.Prelude.{◌≡◌};
 ghost use Rattle.base.specs.Answers.{gives, and_then};
 ghost use Rattle.text.specs.Code.{sizes_answer};

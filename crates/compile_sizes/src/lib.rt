@@ -1,6 +1,8 @@
 // How many records an expression or a condition has, as it stands in a text. And's left side is asked for again when
 // the condition is written, so measuring remembers it in a cache, `sizes`: of a condition's position one more than the
 // records that it has under false.
+#![tactic(auto)]
+
 ghost use Rattle.std.specs.Prelude.{ℕ, ◌+◌, ◌≤◌, ◌≡◌, false, length, get_or};
 ghost use Rattle.std.specs.Bool.{beq};
 ghost use Rattle.base.specs.Acts.{ok, if◌then◌else◌};

@@ -1,4 +1,6 @@
 // The test of a table that is read, and the addresses in it; the test of its n against machine code.
+#![tactic(auto)]
+
 ghost use Rattle.std.specs.Prelude.{◌≡◌, ◌+◌, ◌*◌, ◌<◌, ◌≤◌, length, get_or};
 ghost use Rattle.compile.specs.Table as Table;
 ghost use Rattle.compile.specs.Table.{named_in};

@@ -1,5 +1,7 @@
 // The second compiling stage: addresses and the table, and assembly records turned into machine records in place.
 // `rename_records` serves the way back too.
+#![tactic(auto)]
+
 ghost use Rattle.std.specs.Prelude.{◌≡◌, ℕ, ◌+◌, ◌*◌, ◌<◌, ◌≤◌, List, length, get_or, replicate};
 ghost use Rattle.record.specs.Records.{AssemblyCode};
 ghost use Rattle.record.specs.Bytes.{assembly_kind};

@@ -1,4 +1,6 @@
 // The calls `load` and `read_back`: a store into the machine's memory, and back.
+#![tactic(auto)]
+
 ghost use Rattle.std.specs.Prelude.{◌≡◌, pos, length, replicate};
 ghost use Rattle.base.specs.Code.{count_answer};
 ghost use Rattle.fitting.specs.Loading as Loading;

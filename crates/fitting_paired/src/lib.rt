@@ -1,5 +1,7 @@
 // The call `run_paired`: code and its table are tested against each other, the store loaded, the code run, the store
 // read back. The memory is the call's own, and the machine fresh.
+#![tactic(auto)]
+
 ghost use Rattle.std.specs.Prelude.{◌≡◌, true, List, ℕ, ◌+◌, ◌≤◌, pos, replicate};
 ghost use Rattle.base.specs.Answers.{gives};
 ghost use Rattle.base.specs.Code.{run_answer};

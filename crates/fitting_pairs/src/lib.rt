@@ -1,4 +1,6 @@
 // Two rows of two calls on lent buffers, with what the claims say of them.
+#![tactic(auto)]
+
 ghost use Rattle.std.specs.Prelude.{◌≡◌, ℕ, ◌≤◌, ◌*◌, List, length, take};
 ghost use Rattle.base.specs.Answers.{Answer, gives};
 ghost use Rattle.base.specs.Code.{run_answer, count_answer};

@@ -1,4 +1,6 @@
 // The call `preview_machine`: a loaded machine's run on a copy of its memory, read back over a copy of the store.
+#![tactic(auto)]
+
 ghost use Rattle.std.specs.Prelude.{◌≡◌, length};
 ghost use Rattle.base.specs.Answers.{gives, and_then};
 ghost use Rattle.base.specs.Code.{run_answer, preview_answer, count_answer};

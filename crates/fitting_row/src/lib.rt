@@ -1,4 +1,6 @@
 // The four calls of demand 3 in a row: compile, load, run, read back.
+#![tactic(auto)]
+
 ghost use Rattle.std.specs.Prelude.{◌≡◌, ◌*◌, ◌≤◌, length};
 ghost use Rattle.base.specs.Answers.{gives};
 ghost use Rattle.base.specs.Code.{run_answer};

@@ -1,5 +1,7 @@
 // The call `inspect`, its tests and its search. The positions that can be reached are found one after the other, each
 // with its height, and each is looked at once.
+#![tactic(auto)]
+
 ghost use Rattle.std.specs.Prelude.{◌≡◌, ◌&&◌, leb, length};
 ghost use Rattle.base.specs.Answers.{gives, and_then};
 ghost use Rattle.base.specs.Code.{count_answer};

@@ -1,6 +1,8 @@
 // One position of the inspection: what its record comes to at its height, and which positions are found by it. A
 // position that was found has a label, one more than its height; 0 is no label. `order` lists the positions in the
 // order in which they were found.
+#![tactic(auto)]
+
 ghost use Rattle.std.specs.Prelude.{◌≡◌, ◌+◌, ◌*◌, ◌<◌, ◌≤◌, length};
 ghost use Rattle.word.specs.Numbers.{number_at};
 ghost use Rattle.word.specs.Targets.{target};

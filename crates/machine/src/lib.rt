@@ -1,5 +1,7 @@
 // The stack machine over any memory, the calls that run it, and what is claimed of runs and of runs in pieces. These
 // stand in specs/. Here are the state of a paused run, and the answer of a call that runs machine code.
+#![tactic(auto)]
+
 ghost use Rattle.std.specs.Prelude.{◌≡◌};
 ghost use Rattle.base.specs.Code.{run_answer};
 ghost use Rattle.machine.specs.Calls.{fresh_state, answer_without_state};

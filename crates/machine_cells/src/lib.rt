@@ -1,4 +1,6 @@
 // The values in the lent memories, by what names them: a stack slot, in either layout; an address; a variable.
+#![tactic(auto)]
+
 ghost use Rattle.std.specs.Prelude.{◌≡◌, ◌+◌, ◌<◌, ◌≤◌, pos, length, get_or, set};
 ghost use Rattle.machine_cells.specs.Slots.{index_of};
 

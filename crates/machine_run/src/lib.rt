@@ -1,6 +1,8 @@
 // The executor of machine code: the calls `run_machine` and `go_on`, their tests and their loop. The stack and the
 // variables are cells of one lent slice. A call tests what it is given, then steps until the run ends, from a fresh
 // machine or from the state of a paused run.
+#![tactic(auto)]
+
 ghost use Rattle.std.specs.Prelude.{◌≡◌, ◌&&◌, ℕ, ◌+◌, ◌≤◌, leb, eqb, length};
 ghost use Rattle.base.specs.Answers.{gives, and_then};
 ghost use Rattle.base.specs.Code.{run_answer, count_answer};

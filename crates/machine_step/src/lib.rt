@@ -1,5 +1,7 @@
 // The stack machine by value, and one step of it over either memory. The records that touch only the stack are methods
 // that both executors share; LOAD, STORE and the dispatch are each executor's own.
+#![tactic(auto)]
+
 ghost use Rattle.std.specs.Prelude.{◌≡◌, List, ◌+◌, ◌<◌, ◌≤◌, ◌^◌, ℤ, length};
 ghost use Rattle.base.specs.Answers.{gives};
 ghost use Rattle.base.specs.Code.{end_of};

@@ -1,4 +1,6 @@
 // What the pod's C host calls, with numbers and byte buffers only. An answer is one number, packed as Packing says.
+#![tactic(auto)]
+
 ghost use Rattle.std.specs.Prelude.{◌≡◌};
 ghost use Rattle.text.specs.Calls.{read_call};
 ghost use Rattle.compile.specs.Calls.{compile, go_back};

@@ -1,4 +1,6 @@
 // The answers of calls packed into one number, as Packing says.
+#![tactic(auto)]
+
 ghost use Rattle.std.specs.Prelude.{◌≡◌, ◌%◌};
 ghost use Rattle.base.specs.Code.{end_of, run_answer, count_answer};
 ghost use Rattle.text.specs.Code.{sizes_answer};

@@ -1,5 +1,7 @@
 // Bytes, words and numbers in ASCII, put into a lent buffer. Each function puts one thing at a place of the buffer and
 // gives the place after it; every other byte stays as it was (Puts). It asks for room for the longest such thing.
+#![tactic(auto)]
+
 ghost use Rattle.std.specs.Prelude.{[], ◌∷◌, ◌+◌, ◌≤◌, length};
 ghost use Rattle.print.specs.Numbers.{decimal_by, decimal, signed};
 ghost use Rattle.print_ascii.specs.Puts.{Puts};

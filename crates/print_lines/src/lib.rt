@@ -1,6 +1,8 @@
 // What the printing program prints but for the record lines, as bytes in a lent buffer. Each function puts one line, or
 // a part of one, at a place of the buffer and gives the place after it; every other byte stays as it was (Puts). It
 // asks for room for the longest such line.
+#![tactic(auto)]
+
 ghost use Rattle.std.specs.Prelude.{◌+◌, ◌<◌, ◌≤◌, length};
 ghost use Rattle.base.specs.Code.{end_of};
 ghost use Rattle.print_ascii.specs.Puts.{Puts};

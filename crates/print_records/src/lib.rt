@@ -1,5 +1,7 @@
 // The record lines that the printing program prints, assembly and machine beside each other, as bytes in a lent buffer.
 // Each function puts one thing at a place of the buffer and gives the place after it; every other byte stays (Puts).
+#![tactic(auto)]
+
 ghost use Rattle.std.specs.Prelude.{ℕ, ◌+◌, ◌*◌, ◌<◌, ◌≤◌, length};
 ghost use Rattle.record.specs.Records.{AssemblyCode, MachineCode};
 ghost use Rattle.record.specs.Bytes.{operation};

@@ -1,5 +1,7 @@
 // The whole of what the printing program prints for a text, as bytes in a lent buffer. What is run is the machine code:
 // the text is compiled, and its code and table are run as a pair.
+#![tactic(auto)]
+
 ghost use Rattle.std.specs.Prelude.{ℕ, ◌*◌, ◌≤◌, ◌≡◌, length};
 ghost use Rattle.base.specs.Answers.{gives};
 ghost use Rattle.base.specs.Code.{end_of};

@@ -1,6 +1,8 @@
 // Calls for tests only, whose answers are one number, so that programs in other languages can compare them. No part of
 // the product; `examples/pieces.c` uses it, since the pod's library has no call that runs. What each answers is said by
 // the contract of its call and by that of the function that packs it.
+#![tactic(auto)]
+
 use base::{Count, Preview, Run, copy_cells};
 use machine::{Piece, State};
 use text::Reading;

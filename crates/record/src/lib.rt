@@ -1,4 +1,6 @@
 // Records of both kinds: their bytes, what stands at an index of code, and one record put into a buffer.
+#![tactic(auto)]
+
 ghost use Rattle.std.specs.Prelude.{◌≡◌, ◌∷◌, ◌+◌, ◌*◌, ◌<◌, ◌≤◌, length, get_or};
 ghost use Rattle.word.specs.Numbers.{number_at, bytes_of};
 ghost use Rattle.record.specs.Buffer.{into};

@@ -1,4 +1,6 @@
 // The test of code: whole records (9), each of its kind (10); and the tests of a call on machine code (9, 10, 11).
+#![tactic(auto)]
+
 ghost use Rattle.std.specs.Prelude.{◌≡◌, ◌&&◌, ◌*◌, ◌≤◌, ltb, leb, length};
 ghost use Rattle.base.specs.Answers.{gives, and_then};
 ghost use Rattle.base.specs.Code.{count_answer};

@@ -1,6 +1,8 @@
 // The printing program: a profile's text on standard input, and what it is and does. What it prints is document 01's
 // ("Profiles to hold it to"): the sizes, the records in assembly and machine code, and the run on the machine, from
 // zeros.
+#![tactic(auto)]
+
 ghost use Rattle.std.specs.Prelude.{◌≤◌, length};
 ghost use Rattle.show.specs.Input.{Within};
 

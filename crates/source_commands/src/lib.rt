@@ -1,5 +1,7 @@
 // The executor of commands and loops, as they stand in a text, by the source rules. What is lent to it is lent as to
 // the executor of expressions and conditions.
+#![tactic(auto)]
+
 ghost use Rattle.std.specs.Prelude.{◌≡◌, List, ℕ, ◌<◌, ℤ, length, get_or};
 ghost use Rattle.text.specs.Reading.{command};
 ghost use Rattle.text_ends.specs.Ends.{PartEnds};

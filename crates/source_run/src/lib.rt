@@ -1,5 +1,7 @@
 // The call `run_source`, its tests and its preview: a text is read, and then run as it stands. The text and the store
 // are copied into arrays for the run, which is then faster (source_values says why).
+#![tactic(auto)]
+
 ghost use Rattle.std.specs.Prelude.{◌≡◌, ◌≤◌, leb, length, get_or};
 ghost use Rattle.base.specs.Acts.{if◌then◌else◌};
 ghost use Rattle.base.specs.Answers.{gives, and_then};

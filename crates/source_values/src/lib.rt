@@ -1,5 +1,7 @@
 // The executor of expressions and conditions, as they stand in a text, by the source rules. The text and the store are
 // lent as arrays, the ticks left and the mark as numbers: a slice would be handed on through memory at each call.
+#![tactic(auto)]
+
 ghost use Rattle.std.specs.Prelude.{◌≡◌, Bool, false, List, ℕ, suc, ◌+◌, ◌≤◌, ◌<◌, max, eqb, ℤ, length, get_or};
 ghost use Rattle.text.specs.Syntax.{Constant, Variable, Bc};
 ghost use Rattle.text.specs.Reading.{expression, condition};

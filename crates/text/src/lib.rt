@@ -1,5 +1,7 @@
 // Profile texts: syntax, reading with its refusals, encoding and limits, sizes, the two spellings of constants, and
 // what is claimed of them. These stand in specs/; the limits and the answer of a call on a text are here.
+#![tactic(auto)]
+
 ghost use Rattle.std.specs.Prelude.{◌≡◌};
 ghost use Rattle.base.specs.Answers.{refused};
 ghost use Rattle.text.specs.Code.{sizes_answer};

@@ -1,5 +1,7 @@
 // Reading the bytes of a command. As in `text_conditions`, variables that are named are noted, and a helper is given
 // the position of the construct's first byte and the nesting left for the parts.
+#![tactic(auto)]
+
 ghost use Rattle.std.specs.Prelude.{◌<◌, length};
 ghost use Rattle.text.specs.Reading.{command, assignment, sequence, choice, loop};
 ghost use Rattle.text_conditions.specs.Code.{Answered, Given};

@@ -1,4 +1,6 @@
 // Reading the bytes of an expression or of a condition.
+#![tactic(auto)]
+
 ghost use Rattle.std.specs.Prelude.{◌≡◌, List, Bool, ℕ, ◌+◌, ◌<◌, max, length, get_or};
 ghost use Rattle.std.specs.Bool.{beq};
 ghost use Rattle.base.specs.Acts.{if◌then◌else◌};

@@ -1,4 +1,6 @@
 // Where the parts of a text end: found construct by construct, or looked up in a cache of what was worked out before.
+#![tactic(auto)]
+
 ghost use Rattle.std.specs.Prelude.{◌≡◌, ℕ, ◌≤◌, ◌<◌, length, get_or};
 ghost use Rattle.text_ends.specs.Ends.{Row, noted, PartEnds, times, first};
 

@@ -1,4 +1,6 @@
 // Reading a text whole: the call `read`.
+#![tactic(auto)]
+
 ghost use Rattle.std.specs.Prelude.{◌≡◌, length};
 ghost use Rattle.text.specs.Sizes.{how_many};
 ghost use Rattle.text.specs.Calls.{read_call};

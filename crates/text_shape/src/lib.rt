@@ -1,5 +1,7 @@
 // The shape of a text: the first byte of each construct, a constant's value and width. Nothing else knows how many
 // bytes a constant has.
+#![tactic(auto)]
+
 ghost use Rattle.std.specs.Prelude.{◌≡◌, ◌+◌, ◌≤◌, length, get_or};
 ghost use Rattle.text_shape.specs.Shape.{constant_width, constant_at};
 

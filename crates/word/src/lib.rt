@@ -1,5 +1,7 @@
 // Signed 32-bit numbers: the sum, the order, four bytes or one and a number, where a jump leads. Every operation on
 // signed numbers that needs a proof stands here.
+#![tactic(auto)]
+
 ghost use Rattle.std.specs.Prelude.{◌≡◌, ◌+◌, ◌<◌, ◌≤◌, length, negsuc, ◌+ℤ◌, ◌-ℤ◌};
 ghost use Rattle.std.specs.Int.Signed.{lt_z};
 ghost use Rattle.word.specs.Sums.{clamped};

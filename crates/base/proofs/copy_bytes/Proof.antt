@@ -24,42 +24,42 @@ after new old w h =
     ∙ get_or-drop (length new) old (w - length new) 0
     ∙ ap (λ (j : ℕ). get_or old j 0) (sym split))
 
-abbrev invariant-loop : tie.invariant-loop
-invariant-loop bytes out₀ i₀ out i = (i ≤ length bytes) × Swept 0 out₀ (over bytes out₀) out i
+abbrev invariant-loop-i : tie.invariant-loop-i
+invariant-loop-i bytes out₀ i₀ out i = (i ≤ length bytes) × Swept 0 out₀ (over bytes out₀) out i
 
-abbrev decreases-loop : tie.decreases-loop
-decreases-loop bytes out₀ i₀ out i = length bytes - i
+abbrev decreases-loop-i : tie.decreases-loop-i
+decreases-loop-i bytes out₀ i₀ out i = length bytes - i
 
-again : tie.Need-loop-preserved invariant-loop decreases-loop
+again : tie.Need-loop-i-preserved invariant-loop-i decreases-loop-i
 again c =
-    let going : tie.In-loop invariant-loop decreases-loop = search in
-    let turn : tie.At-loop invariant-loop decreases-loop = search in
-    let s : tie.Start invariant-loop decreases-loop = search in
+    let going : tie.In-loop-i invariant-loop-i decreases-loop-i = search in
+    let turn : tie.At-loop-i invariant-loop-i decreases-loop-i = search in
+    let s : tie.Start invariant-loop-i decreases-loop-i = search in
     let bytes = s.args.bytes.now in
-    let h : turn.loop.i < length bytes = going.loop-test.taken in (
+    let h : turn.loop-i.i < length bytes = going.loop-i-test.true in (
       omega arith,
-      swept_set turn.loop.inv.1 (omega (arith, s.pre)) (sym (get_or-append bytes _ 0 turn.loop.i h)),
+      swept_set turn.loop-i.invariant.1 (omega (arith, s.requires)) (sym (get_or-append bytes _ 0 turn.loop-i.i h)),
     )
 
 pub copy_bytes_spec : {M : Type 1} → statement M
 copy_bytes_spec =
     tie.close
     (tie.spec
-    invariant-loop
-    decreases-loop
+    invariant-loop-i
+    decreases-loop-i
     (λ c. (omega arith, swept_start))
     (λ c. search rules)
     (λ c.
-    let turn : tie.At-loop invariant-loop decreases-loop = search in
-    let s : tie.Start invariant-loop decreases-loop = search in
-    omega (arith, turn.loop.inv.1.long, s.pre))
+    let turn : tie.At-loop-i invariant-loop-i decreases-loop-i = search in
+    let s : tie.Start invariant-loop-i decreases-loop-i = search in
+    omega (arith, turn.loop-i.invariant.1.long, s.requires))
     (λ c. search rules)
     (λ c. search rules)
     again
-    (λ c. let turn : tie.At-loop invariant-loop decreases-loop = search in turn.loop.inv.1.long)
+    (λ c. let turn : tie.At-loop-i invariant-loop-i decreases-loop-i = search in turn.loop-i.invariant.1.long)
     (λ c.
-    let turn : tie.At-loop invariant-loop decreases-loop = search in
-    let s : tie.Start invariant-loop decreases-loop = search in
-    swept_stop turn.loop.inv.1
-    (λ w h. after s.args.bytes.now s.args.out.now w (omega (arith, c.loop-test.false)))
-    (simp (length-append, length-drop) (omega (arith, s.pre)))))
+    let turn : tie.At-loop-i invariant-loop-i decreases-loop-i = search in
+    let s : tie.Start invariant-loop-i decreases-loop-i = search in
+    swept_stop turn.loop-i.invariant.1
+    (λ w h. after s.args.bytes.now s.args.out.now w (omega (arith, c.loop-i-test.false)))
+    (simp (length-append, length-drop) (omega (arith, s.requires)))))

@@ -12,21 +12,21 @@ use Rattle.word.proofs.Laws.{read_back, opposite_is, upper_half}
 use Rattle.word.proofs.byte_number.Statement.{statement}
 use Rattle.word.proofs.byte_number.Tie as tie
 
-lower : tie.Need-returns
+lower : tie.Need-returns-then-b-lt128
 unfolding byte_number
 lower c =
     let s : tie.Start = search in
     let b = s.args.b in
     to_z_pos w32 {n = b} (omega arith) ∙ sym (to_z_pos w8 {n = b} (omega arith))
 
-upper : tie.Need-returns-2
+upper : tie.Need-returns
 unfolding byte_number
 upper c =
     let s : tie.Start = search in
     let b = s.args.b in
     read_back
     w32
-    c.complement.type-inv
+    c.complement.type_inv
     (c.complement.ensures ∙ opposite_is (to_z w32 (255 - b)) ∙ upper_half w8 255 b refl (omega arith) (omega arith))
 
 pub byte_number_spec : {M : Type 1} → statement M

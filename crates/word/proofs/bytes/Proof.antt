@@ -8,7 +8,7 @@ use Rattle.word.proofs.bytes.Tie as tie
 
 returns : tie.Need-returns
 unfolding bytes_of
-returns c = ap split (c.bits.ensures ∙ ap bits_of (to_z-of_z c.before.ranges.z))
+returns c = ap split (c.bits-u.ensures ∙ ap bits_of (to_z-of_z c.before.ranges.z))
 
 pub bytes_spec : {M : Type 1} → statement M
 bytes_spec =

@@ -11,7 +11,7 @@ use Rattle.word.proofs.complement.Tie as tie
 difference : (c : tie.Start) → negsuc 0 -ℤ to_z w32 (of_z w32 c.args.z) ≡ negsuc 0 -ℤ c.args.z
 difference c = λ i. negsuc 0 -ℤ to_z-of_z c.ranges.z i
 
-fits : tie.Need-overflow-sub-result
+fits : tie.Need-overflow_sub-result
 fits c =
     subst (SFits w32) (sym (difference c ∙ opposite_is c.args.z)) (opposite_fits c.args.z c.ranges.z)
 

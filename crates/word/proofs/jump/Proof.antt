@@ -22,29 +22,29 @@ next : (s : tie.Start) → to_z w32 (s.args.position + 1) ≡ pos (suc s.args.po
 next s = to_z_pos w32 {n = s.args.position + 1} (omega arith) ∙ ap pos (add-one s.args.position)
 
 -- what is read back of the wide sum
-reached : (c : tie.After-wide-sum) → to_z w64 (of_z w64 c.wide-sum.result) ≡ sum c.before
+reached : (c : tie.After-wide_sum-reached) → to_z w64 (of_z w64 c.wide_sum-reached.result) ≡ sum c.before
 reached c =
     let s : tie.Start = search in
-    read_back w64 c.wide-sum.type-inv (c.wide-sum.ensures ∙ (λ i. next s i +ℤ to_z-of_z s.fits.operand i))
+    read_back w64 c.wide_sum-reached.type_inv (c.wide_sum-reached.ensures ∙ (λ i. next s i +ℤ to_z-of_z s.ranges.operand i))
 
-below : tie.Need-returns
+below : tie.Need-returns-then-reached-lt0
 unfolding target
-below c = let w : tie.After-wide-sum = search in within_below _ _ (rw (reached w) at c.if1.true)
+below c = let w : tie.After-wide_sum-reached = search in within_below _ _ (rw (reached w) at c.if-reached-lt0.true)
 
-fits : tie.Need-overflow-cast-to
-fits c = let w : tie.After-wide-sum = search in casts w64 w.wide-sum.result w.wide-sum.ok c.if1.false
+fits : tie.Need-overflow_cast-to
+fits c = let w : tie.After-wide_sum-reached = search in casts w64 w.wide_sum-reached.result w.wide_sum-reached.type_inv c.if-reached-lt0.false
 
-past : tie.Need-returns-2
+past : tie.Need-returns-then-last-to
 unfolding target
-past c = let w : tie.After-wide-sum = search in within_past _ _ (rw (reached w) at c.if2.true)
+past c = let w : tie.After-wide_sum-reached = search in within_past _ _ (rw (reached w) at c.if-last-to.true)
 
-inside : tie.Need-returns-3
+inside : tie.Need-returns
 unfolding target
 inside c =
-    let off : tie.Else1 = search in
-    let w : tie.After-wide-sum = search in
+    let off : tie.Else-reached-lt0 = search in
+    let w : tie.After-wide_sum-reached = search in
     let e = reached w in
-    rw e (within_inside _ _ (rw e at off.if1.left) (rw e at c.if2.false))
+    rw e (within_inside _ _ (rw e at off.if-reached-lt0.false) (rw e at c.if-last-to.false))
 
 pub jump_spec : {M : Type 1} → statement M
 jump_spec =

@@ -11,11 +11,11 @@ use Rattle.word.proofs.Laws.{read_back, opposite_is, upper_half}
 use Rattle.word.proofs.number.Statement.{statement}
 use Rattle.word.proofs.number.Tie as tie
 
-lower : tie.Need-returns
+lower : tie.Need-returns-then-u-lt2147483648
 unfolding number_of
 lower c = refl
 
-upper : tie.Need-returns-2
+upper : tie.Need-returns
 unfolding number_of
 upper c =
     let s : tie.Start = search in
@@ -23,7 +23,7 @@ upper c =
     let u = joined a.b0 a.b1 a.b2 a.b3 in
     read_back
     w32
-    c.complement.type-inv
+    c.complement.type_inv
     (c.complement.ensures ∙ opposite_is (to_z w32 (4294967295 - u))
     ∙ upper_half w32 4294967295 u refl (omega arith) (omega arith))
 

@@ -8,7 +8,7 @@ use Rattle.word.proofs.number_at.Tie as tie
 
 returns : tie.Need-returns
 unfolding number_at
-returns c = read_back w32 c.number.type-inv c.number.ensures
+returns c = read_back w32 c.number.type_inv c.number.ensures
 
 pub number_at_spec : {M : Type 1} → statement M
 number_at_spec =

@@ -14,7 +14,7 @@ sum : (c : tie.Start)
     ≡ c.args.x +ℤ c.args.y
 sum c = λ i. widened c.ranges.x i +ℤ widened c.ranges.y i
 
-add_result : tie.Need-overflow-add-result
+add_result : tie.Need-overflow_add-result
 add_result c = subst (SFits w64) (sym (sum c)) (sum_fits c.ranges.x c.ranges.y)
 
 returns : tie.Need-returns
