@@ -13,7 +13,7 @@ pub const VARIABLES: usize = 64;
 pub const LAST_VARIABLE: u8 = 63;
 
 // The ends of a run.
-#[derive(Drop)]
+#[derive(Clone, Copy)]
 pub enum End {
     Done,
     Spent,
@@ -23,7 +23,7 @@ pub enum End {
 }
 
 // Why a call declines: document 01's number, and the place that it names.
-#[derive(Drop)]
+#[derive(Clone, Copy)]
 pub struct Refusal {
     pub number: u8,
     pub place: usize,
@@ -31,21 +31,21 @@ pub struct Refusal {
 
 // The answer of a call that runs: a refusal, or the run's end, its count and its mark, the most values that its stack
 // held.
-#[derive(Drop)]
+#[derive(Clone, Copy)]
 pub enum Run {
     Refused(Refusal),
     Ended { end: End, count: u32, mark: usize },
 }
 
 // The answer of a preview: what the run on a copy tells, and the store that it leaves; after a refusal 64 zeros.
-#[derive(Drop)]
+#[derive(Clone, Copy)]
 pub struct Preview {
     pub run: Run,
     pub store: [i32; VARIABLES],
 }
 
 // The answer of a call that gives a count: a refusal, or the count.
-#[derive(Drop)]
+#[derive(Clone, Copy)]
 pub enum Count {
     Refused(Refusal),
     Gives(usize),

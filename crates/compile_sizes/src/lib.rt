@@ -18,7 +18,7 @@ ghost use Rattle.compile_sizes.specs.Cache.{looked_up, size_noted, ConditionSize
 use text_shape::{AND, BC, CONSTANT, NOT, ONE_BYTE_CONSTANT, VARIABLE, constant_width};
 
 // A part that was measured or written: the position after it, and how many records it has.
-#[derive(Drop)]
+#[derive(Clone, Copy)]
 pub struct PartSize {
     pub next: usize,
     pub records: usize,
@@ -124,7 +124,7 @@ pub fn value_size(value: bool, flag: bool) -> usize
 
 // A condition without the Nots in front of it: where it stands, the nesting left for it, and the flag that it is
 // under.
-#[derive(Drop)]
+#[derive(Clone, Copy)]
 pub struct Bare {
     pub at: usize,
     pub nest: usize,

@@ -14,14 +14,14 @@ use record::{Address, MLOAD, MSTORE, Variable};
 const WORD_BITS: usize = 64;
 
 // What the test of a table finds: how many variables it names, or that it is no table.
-#[derive(Drop)]
+#[derive(Clone, Copy)]
 pub enum Named {
     Cells(usize),
     NoTable,
 }
 
 // What one pass over a table gathers: its address marks, and how many of its entries are not 0.
-#[derive(Drop)]
+#[derive(Clone, Copy)]
 struct Marked {
     word: u64,
     count: usize,

@@ -27,7 +27,7 @@ fn has_name(number: u8) -> bool
 
 // Which way records are renamed: from assembly to machine code, or back. With it n, by which addresses are told: only
 // contracts ask for it.
-#[derive(Drop)]
+#[derive(Clone, Copy)]
 pub enum Direction {
     ToMachine(usize),
     ToAssembly(usize),
@@ -106,7 +106,7 @@ pub fn rename_records(code: &mut [u8], count: usize, direction: Direction, names
 // ---- The table
 
 // What a record mentions.
-#[derive(Drop)]
+#[derive(Clone, Copy)]
 enum Mention {
     Of(Variable),
     Nothing,

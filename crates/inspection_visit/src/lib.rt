@@ -21,7 +21,7 @@ const JMP: usize = (record::MJMP - record::MLOADI) as usize;
 
 // What a record comes to at a height: the height that it leaves and where it leads, one way or two; or that it takes
 // more than the height or pushes past D.
-#[derive(Drop)]
+#[derive(Clone, Copy)]
 pub enum Checked {
     Leads {
         after: usize,
@@ -36,7 +36,7 @@ pub enum Checked {
 }
 
 // How many positions are found, or that no heights can be given.
-#[derive(Drop)]
+#[derive(Clone, Copy)]
 pub enum Finds {
     Found(usize),
     Clash,

@@ -11,7 +11,7 @@ use base::{End, Refusal, Run};
 
 // What a spent run hands out, and a later call takes: the position of the record due, the number of values on the
 // stack, the records counted, and the mark, the most values that there were.
-#[derive(Drop)]
+#[derive(Clone, Copy)]
 pub struct State {
     pub position: usize,
     pub size: usize,
@@ -21,7 +21,7 @@ pub struct State {
 
 // The answer of a call that runs machine code: a refusal; the run's end, its count and its mark; or, where it is spent,
 // its state.
-#[derive(Drop)]
+#[derive(Clone, Copy)]
 pub enum Piece {
     Refused(Refusal),
     Ended { end: End, count: u32, mark: usize },

@@ -7,14 +7,14 @@ ghost use Rattle.machine_cells.specs.Slots.{index_of};
 use record::{Address, Variable};
 
 // Where the stack lies in the lent slice: bottom first (assembly), or from address −1 down (machine code).
-#[derive(Drop)]
+#[derive(Clone, Copy)]
 pub enum Layout {
     Upward,
     Downward,
 }
 
 // What a run's steps share: where the stack lies, its D slots, and the position at which the code ends.
-#[derive(Drop)]
+#[derive(Clone, Copy)]
 pub struct Limits {
     pub layout: Layout,
     pub depth: usize,

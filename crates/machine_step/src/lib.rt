@@ -24,7 +24,7 @@ use word::Target;
 
 // The position of the record due, the number of values on the stack, the records counted, and the mark: the most values
 // that there were.
-#[derive(Drop)]
+#[derive(Clone, Copy)]
 pub struct Machine {
     pub position: usize,
     pub size: usize,
@@ -33,14 +33,14 @@ pub struct Machine {
 }
 
 // What a step comes to: the next machine, or an end and the machine that it leaves.
-#[derive(Drop)]
+#[derive(Clone, Copy)]
 pub enum Step {
     Next(Machine),
     Ended(End, Machine),
 }
 
 // How a run ended, and the machine that it left.
-#[derive(Drop)]
+#[derive(Clone, Copy)]
 pub struct Halted {
     pub end: End,
     pub machine: Machine,

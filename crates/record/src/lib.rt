@@ -7,10 +7,10 @@ ghost use Rattle.record.specs.Buffer.{into};
 
 // What LOAD and STORE name: a variable number (0 to 63) in assembly, an address (1 to n) in machine code.
 // Neither can be given for the other.
-#[derive(Drop)]
+#[derive(Clone, Copy)]
 pub struct Variable(pub usize);
 
-#[derive(Drop)]
+#[derive(Clone, Copy)]
 pub struct Address(pub usize);
 
 // A record is one byte and a four-byte operand.

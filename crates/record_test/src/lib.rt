@@ -12,7 +12,7 @@ use base::Count;
 use record::{LOADI, MLOADI, MOST_RECORDS, RECORD_BYTES, byte_at, operand_at};
 
 // A kind of record: the byte of its LOADI, and the least and the greatest number that is a name.
-#[derive(Drop)]
+#[derive(Clone, Copy)]
 pub struct Kind {
     pub first: u8,
     pub least: u64,

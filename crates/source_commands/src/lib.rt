@@ -16,7 +16,7 @@ use text_ends::part_end;
 use text_shape::{ASSIGN, IF, SEQUENCE, SKIP};
 
 // What a command comes to: the run goes on after it, or is spent.
-#[derive(Drop)]
+#[derive(Clone, Copy)]
 pub enum Progress {
     On(usize),
     Spent,

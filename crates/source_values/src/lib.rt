@@ -18,7 +18,7 @@ use text_shape::{AND, BC, CONSTANT, LESS, NOT, ONE_BYTE_CONSTANT, PLUS, VARIABLE
 
 // What an expression comes to: its value, the most values that it had on the stack, and the position after it; or that
 // the run is spent, and the most values until then.
-#[derive(Drop)]
+#[derive(Clone, Copy)]
 pub enum Value {
     Of {
         value: i32,
@@ -31,7 +31,7 @@ pub enum Value {
 }
 
 // What a condition comes to: its truth and the position after it, or that the run is spent.
-#[derive(Drop)]
+#[derive(Clone, Copy)]
 pub enum Truth {
     Of { value: bool, next: usize },
     Spent,

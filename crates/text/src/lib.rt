@@ -15,7 +15,7 @@ pub const LONGEST: usize = 4096;
 pub const DEEPEST: usize = 64;
 
 // What an accepted text's reading gives: its record count, its depth bound D and how many variables it names, n.
-#[derive(Drop)]
+#[derive(Clone, Copy)]
 pub struct Sizes {
     pub records: usize,
     pub depth: usize,
@@ -23,7 +23,7 @@ pub struct Sizes {
 }
 
 // The answer of a call on a text: a refusal, or the text's sizes.
-#[derive(Drop)]
+#[derive(Clone, Copy)]
 pub enum Reading {
     Refused(Refusal),
     Accepted(Sizes),

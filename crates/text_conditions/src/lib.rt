@@ -15,7 +15,7 @@ use base::{LAST_VARIABLE, VARIABLES};
 use text_shape::{AND, BC, CONSTANT, LESS, NOT, ONE_BYTE_CONSTANT, PLUS, VARIABLE, constant_width};
 
 // What reading a part comes to: a refusal; or its record count, its depth bound and the position after it.
-#[derive(Drop)]
+#[derive(Clone, Copy)]
 pub enum PartReading {
     Refused {
         number: u8,

@@ -36,7 +36,7 @@ pub const LESS: u8 = 0x23;
 // ---- Constants
 
 // A constant: its value, and the bytes of its operand.
-#[derive(Drop)]
+#[derive(Clone, Copy)]
 pub struct Constant {
     pub value: i32,
     pub width: usize,

@@ -9,7 +9,7 @@ ghost use Rattle.word.specs.Numbers.{number_of, number_at, byte_number, bits_of,
 ghost use Rattle.word.specs.Targets.{target};
 
 // Where a taken jump leads: a position, or outside the code.
-#[derive(Drop)]
+#[derive(Clone, Copy)]
 pub enum Target {
     To(usize),
     Astray,

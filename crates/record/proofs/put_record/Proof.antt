@@ -14,8 +14,8 @@ returns : tie.Need-returns
 unfolding bytes_of
 returns c =
     let s : tie.Start = search in
-    let four : c.bytes.result ≡ bytes_of s.args.operand = cc (to_z-of_z s.fits.operand) in
-    rw four (five_set (5 * s.args.index) s.args.first _ _ _ _ s.args.out.now s.pre)
+    let four : c.bytes-bytes.result ≡ bytes_of s.args.operand = cc (to_z-of_z s.ranges.operand) in
+    rw four (five_set (5 * s.args.index) s.args.first _ _ _ _ s.args.out.now s.requires)
 
 pub put_record_spec : {M : Type 1} → statement M
 put_record_spec =

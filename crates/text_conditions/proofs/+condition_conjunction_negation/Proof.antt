@@ -17,8 +17,8 @@ use Rattle.text.proofs.Heads.{is_truth, is_negation, is_conjunction, is_comparis
 use Rattle.text_conditions.specs.Code.{conditions, values}
 use Rattle.text_conditions.proofs.Parts.{next_given, after, Alike, declines, one, first_ends, two}
 use Rattle.text_conditions.proofs.Bounds.{room, condition_small}
-use Rattle.text_conditions.proofs.condition.Reads as condition_reads
-use Rattle.text_conditions.proofs.condition.Kinds as condition_kinds
+use Rattle.text_conditions.proofs.condition-first.Reads as condition_reads
+use Rattle.text_conditions.proofs.condition-first.Kinds as condition_kinds
 use Rattle.text_conditions.proofs.+condition_conjunction_negation.Lts-condition as condition_lts
 use Rattle.text_conditions.proofs.conjunction.Reads as conjunction_reads
 use Rattle.text_conditions.proofs.conjunction.Kinds as conjunction_kinds
@@ -98,11 +98,11 @@ unfolding condition_of decline
 +condition_conjunction_negation_spec = close condition.measure conjunction.measure negation.measure
     (λ t. condition_lts.spec (condition_claims t) (at condition t) condition.post
     (λ c κs. search rules)
-    (λ c. rw (heads.condition_past _ _ _ c.before.if1.true) (declines _ _ _ c.decline.ensures))
+    (λ c. rw (heads.condition_past _ _ _ c.before.if-text-at.true) (declines _ _ _ c.decline.ensures))
     (λ c κs. search rules)
     (λ c.
-    let h : InCondition t condition_lts.Else1 = search in
-    rw (heads.condition_deep _ _ _ h.if1.left c.before.if2.true) (declines _ _ _ c.decline2.ensures))
+    let h : InCondition t condition_lts.Else-text-at = search in
+    rw (heads.condition_deep _ _ _ h.if-text-at.left c.before.if-nest-eq0.true) (declines _ _ _ c.decline-then-nest-eq0.ensures))
     (λ c. search rules)  -- the byte is there
     (λ c. search rules)
     (λ c κs. search rules)  -- Bc's value
@@ -114,72 +114,72 @@ unfolding condition_of decline
     (λ c κs. search rules)  -- Less
     (λ c κs. search rules)
     (λ c.
-    let n : InCondition t condition_lts.Else2 = search in
-    let h : InCondition t condition_lts.Else1 = search in
+    let n : InCondition t condition_lts.Else-nest-eq0 = search in
+    let h : InCondition t condition_lts.Else-text-at = search in
     let s : InCondition t condition_lts.Start = search in
     let flag = s.args.flag in
-    rw (heads.condition_at _ _ _ h.if1.left n.if2.left, is_truth c.before.match.keys1)
+    rw (heads.condition_at _ _ _ h.if-text-at.left n.if-nest-eq0.left, is_truth c.before.in-32.keys1)
     (one _ (conditions flag) (values flag) (λ v. Bc (eqb v 1)) (operand _ 1) _ _ _ _ (value_alike flag)
     (c.value.ensures _)))
     (λ c.
-    let b : InCondition t condition_lts.At-match-keys2 = search in
-    let n : InCondition t condition_lts.Else2 = search in
-    let h : InCondition t condition_lts.Else1 = search in
-    rw (heads.condition_at _ _ _ h.if1.left n.if2.left, is_negation b.match.keys2)
+    let b : InCondition t condition_lts.In-33 = search in
+    let n : InCondition t condition_lts.Else-nest-eq0 = search in
+    let h : InCondition t condition_lts.Else-text-at = search in
+    rw (heads.condition_at _ _ _ h.if-text-at.left n.if-nest-eq0.left, is_negation b.in-32.keys2)
     c.negation.ensures)
     (λ c.
-    let b : InCondition t condition_lts.At-match-keys3 = search in
-    let n : InCondition t condition_lts.Else2 = search in
-    let h : InCondition t condition_lts.Else1 = search in
-    rw (heads.condition_at _ _ _ h.if1.left n.if2.left, is_conjunction b.match.keys3)
+    let b : InCondition t condition_lts.In-34 = search in
+    let n : InCondition t condition_lts.Else-nest-eq0 = search in
+    let h : InCondition t condition_lts.Else-text-at = search in
+    rw (heads.condition_at _ _ _ h.if-text-at.left n.if-nest-eq0.left, is_conjunction b.in-32.keys3)
     c.conjunction.ensures)
     (λ c.
-    let b : InCondition t condition_lts.At-match-keys4 = search in
-    let n : InCondition t condition_lts.Else2 = search in
-    let h : InCondition t condition_lts.Else1 = search in
-    rw (heads.condition_at _ _ _ h.if1.left n.if2.left, is_comparison b.match.keys4)
+    let b : InCondition t condition_lts.In-35 = search in
+    let n : InCondition t condition_lts.Else-nest-eq0 = search in
+    let h : InCondition t condition_lts.Else-text-at = search in
+    rw (heads.condition_at _ _ _ h.if-text-at.left n.if-nest-eq0.left, is_comparison b.in-32.keys4)
     (c.two_expressions.ensures.1 _))
     (λ c.
-    let n : InCondition t condition_lts.Else2 = search in
-    let h : InCondition t condition_lts.Else1 = search in
-    let no = c.before.match.rest in
+    let n : InCondition t condition_lts.Else-nest-eq0 = search in
+    let h : InCondition t condition_lts.Else-text-at = search in
+    let no = c.before.in-32.rest in
     rw (
-      heads.condition_at _ _ _ h.if1.left n.if2.left,
+      heads.condition_at _ _ _ h.if-text-at.left n.if-nest-eq0.left,
       is_no_condition no.0.0.0.1 no.0.0.1 no.0.1 no.1,
     )
-    (declines _ _ _ c.decline3.ensures)))
+    (declines _ _ _ c.decline-in_default.ensures)))
     (λ t. conjunction_lts.spec (conjunction_claims t) (at conjunction t) conjunction.post
     (λ c. search rules)
     (λ c κs. search rules)  -- the first condition
     (λ c. search rules)
     (λ c. search rules)
     (λ c.
-    let r : InConjunction t conjunction_lts.After-condition = search in
+    let r : InConjunction t conjunction_lts.After-condition-first = search in
     let s : InConjunction t conjunction_lts.Start = search in
     first_ends _ (conditions s.args.flag) (conditions false) (reading _ _) _ _ _ _ _ _
-    r.condition.ensures c.enum_told.given.1)
+    r.condition-first.ensures c.enum_told-1.given.1)
     (λ c κs.
-    let x : InConjunction t conjunction_lts.After-first = search in
-    let r : InConjunction t conjunction_lts.After-condition = search in
+    let x : InConjunction t conjunction_lts.In-Read-2 = search in
+    let r : InConjunction t conjunction_lts.After-condition-first = search in
     let s : InConjunction t conjunction_lts.Start = search in
-    (search rules, next_given (conditions false) _ s.pre.1.0 r.condition.ensures x.first.given.1))
+    (search rules, next_given (conditions false) _ s.pre.1.0 r.condition-first.ensures x.first-1.given.1))
     (λ c κs.
-    let x : InConjunction t conjunction_lts.After-first = search in
-    let r : InConjunction t conjunction_lts.After-condition = search in
-    let k : InConjunction t conjunction_lts.After-shared-slice-known = search in
+    let x : InConjunction t conjunction_lts.In-Read-2 = search in
+    let r : InConjunction t conjunction_lts.After-condition-first = search in
+    let k : InConjunction t conjunction_lts.After-shared_slice_known-1 = search in
     let s : InConjunction t conjunction_lts.Start = search in
-    let bytes : Bytes s.args.text.now = λ i. (k.shared-slice-known.given i).fits in
+    let bytes : Bytes s.args.text.now = λ i. (k.shared_slice_known-1.given i).fits in
     let short = s.pre.1.0.short in
     room 4096 4096 _ _ _ _ (omega arith)
-    (rw x.first.given.1 at (condition_small _ bytes short _ _ _ _ _ _ r.condition.ensures))
-    (condition_small _ bytes short _ _ _ _ _ _ c.condition2.ensures))
+    (rw x.first-1.given.1 at (condition_small _ bytes short _ _ _ _ _ _ r.condition-first.ensures))
+    (condition_small _ bytes short _ _ _ _ _ _ c.condition.ensures))
     (λ c.
-    let x : InConjunction t conjunction_lts.After-first = search in
-    let r : InConjunction t conjunction_lts.After-condition = search in
+    let x : InConjunction t conjunction_lts.In-Read-2 = search in
+    let r : InConjunction t conjunction_lts.After-condition-first = search in
     let s : InConjunction t conjunction_lts.Start = search in
     let flag = s.args.flag in
     two _ (conditions flag) (conditions false) (conditions flag) And (reading _ _) (reading _ _) _ _ _ _ _ 0 0
-    (and_alike flag) r.condition.ensures x.first.given.1 c.before.condition2.ensures
+    (and_alike flag) r.condition-first.ensures x.first-1.given.1 c.before.condition.ensures
     c.joined.ensures))
     (λ t. negation_lts.spec (negation_claims t) (at negation t) negation.post
     (λ c. search rules)
@@ -188,4 +188,4 @@ unfolding condition_of decline
     let s : InNegation t negation_lts.Start = search in
     let flag = s.args.flag in
     one _ (conditions flag) (conditions (not flag)) Not (reading _ _) _ _ _ _ (not_alike flag)
-    c.condition.ensures))
+    c.condition-first.ensures))

@@ -18,8 +18,8 @@ use Rattle.text.proofs.Heads.{is_variable, is_plus}
 use Rattle.text_conditions.specs.Code.{expressions, conditions, variables}
 use Rattle.text_conditions.proofs.Parts.{next_given, after, Alike, declines, one, first_ends, two, constant_told}
 use Rattle.text_conditions.proofs.Bounds.{room, expression_small}
-use Rattle.text_conditions.proofs.expression.Reads as expression_reads
-use Rattle.text_conditions.proofs.expression.Kinds as expression_kinds
+use Rattle.text_conditions.proofs.expression-first.Reads as expression_reads
+use Rattle.text_conditions.proofs.expression-first.Kinds as expression_kinds
 use Rattle.text_conditions.proofs.+expression_two_expressions.Lts-expression as expression_lts
 use Rattle.text_conditions.proofs.two_expressions.Reads as two_expressions_reads
 use Rattle.text_conditions.proofs.two_expressions.Kinds as two_expressions_kinds
@@ -87,11 +87,11 @@ unfolding expression_of condition_of decline
 +expression_two_expressions_spec = close expression.measure two_expressions.measure
     (λ t. expression_lts.spec (expression_claims t) (at expression t) expression.post
     (λ c κs. search rules)
-    (λ c. rw (heads.expression_past _ _ _ c.before.if1.true) (declines _ _ _ c.decline.ensures))
+    (λ c. rw (heads.expression_past _ _ _ c.before.if-text-at.true) (declines _ _ _ c.decline.ensures))
     (λ c κs. search rules)
     (λ c.
-    let h : InExpression t expression_lts.Else1 = search in
-    rw (heads.expression_deep _ _ _ h.if1.left c.before.if2.true) (declines _ _ _ c.decline2.ensures))
+    let h : InExpression t expression_lts.Else-text-at = search in
+    rw (heads.expression_deep _ _ _ h.if-text-at.left c.before.if-nest-eq0.true) (declines _ _ _ c.decline-then-nest-eq0.ensures))
     (λ c. search rules)  -- the byte is there
     (λ c κs. search rules)  -- constant
     (λ c. search rules)
@@ -99,63 +99,63 @@ unfolding expression_of condition_of decline
     (λ c. search rules)
     (λ c κs. search rules)  -- Plus
     (λ c κs.
-    let h : InExpression t expression_lts.Else1 = search in
-    let no = c.match.rest in
-    (h.if1.left, (no.0.0.1, (no.0.1, no.1))))  -- neither
+    let h : InExpression t expression_lts.Else-text-at = search in
+    let no = c.in-16.rest in
+    (h.if-text-at.left, (no.0.0.1, (no.0.1, no.1))))  -- neither
     (λ c.
-    let n : InExpression t expression_lts.Else2 = search in
-    let h : InExpression t expression_lts.Else1 = search in
-    rw (heads.expression_at _ _ _ h.if1.left n.if2.left)
-    (constant_told _ _ _ _ _ (inl c.before.match.keys1) (c.constant.ensures _)))
+    let n : InExpression t expression_lts.Else-nest-eq0 = search in
+    let h : InExpression t expression_lts.Else-text-at = search in
+    rw (heads.expression_at _ _ _ h.if-text-at.left n.if-nest-eq0.left)
+    (constant_told _ _ _ _ _ (inl c.before.in-16.keys1) (c.constant.ensures _)))
     (λ c.
-    let b : InExpression t expression_lts.At-match-keys2 = search in
-    let n : InExpression t expression_lts.Else2 = search in
-    let h : InExpression t expression_lts.Else1 = search in
-    rw (heads.expression_at _ _ _ h.if1.left n.if2.left, is_variable b.match.keys2)
+    let b : InExpression t expression_lts.In-17 = search in
+    let n : InExpression t expression_lts.Else-nest-eq0 = search in
+    let h : InExpression t expression_lts.Else-text-at = search in
+    rw (heads.expression_at _ _ _ h.if-text-at.left n.if-nest-eq0.left, is_variable b.in-16.keys2)
     (one _ expressions variables Variable (operand _ 63) _ _ _ _ variable_alike c.variable.ensures))
     (λ c.
-    let b : InExpression t expression_lts.At-match-keys3 = search in
-    let n : InExpression t expression_lts.Else2 = search in
-    let h : InExpression t expression_lts.Else1 = search in
-    rw (heads.expression_at _ _ _ h.if1.left n.if2.left, is_plus b.match.keys3)
+    let b : InExpression t expression_lts.In-18 = search in
+    let n : InExpression t expression_lts.Else-nest-eq0 = search in
+    let h : InExpression t expression_lts.Else-text-at = search in
+    rw (heads.expression_at _ _ _ h.if-text-at.left n.if-nest-eq0.left, is_plus b.in-16.keys3)
     c.two_expressions.ensures.0)
     (λ c.
-    let n : InExpression t expression_lts.Else2 = search in
-    let h : InExpression t expression_lts.Else1 = search in
-    rw (heads.expression_at _ _ _ h.if1.left n.if2.left) (c.one-byte-constant.ensures _ _)))
+    let n : InExpression t expression_lts.Else-nest-eq0 = search in
+    let h : InExpression t expression_lts.Else-text-at = search in
+    rw (heads.expression_at _ _ _ h.if-text-at.left n.if-nest-eq0.left) (c.one_byte_constant.ensures _ _)))
     (λ t. two_expressions_lts.spec (two_expressions_claims t) (at two_expressions t) two_expressions.post
     (λ c. search rules)
     (λ c κs. search rules)  -- the first expression
     (λ c. search rules)
     (λ c. search rules)
     (λ c.
-    let r : InTwoExpressions t two_expressions_lts.After-expression = search in
-    let first = r.expression.ensures in
-    let no = c.enum_told.given.1 in (
+    let r : InTwoExpressions t two_expressions_lts.After-expression-first = search in
+    let first = r.expression-first.ensures in
+    let no = c.enum_told-1.given.1 in (
       first_ends _ expressions expressions (reading _ _) _ _ _ _ _ _ first no,
       λ flag. first_ends _ (conditions flag) expressions (reading _ _) _ _ _ _ _ _ first no,
     ))
     (λ c κs.
-    let x : InTwoExpressions t two_expressions_lts.After-first = search in
-    let r : InTwoExpressions t two_expressions_lts.After-expression = search in
+    let x : InTwoExpressions t two_expressions_lts.In-Read-2 = search in
+    let r : InTwoExpressions t two_expressions_lts.After-expression-first = search in
     let s : InTwoExpressions t two_expressions_lts.Start = search in
-    (search rules, next_given expressions _ s.pre.1.0 r.expression.ensures x.first.given.1))
+    (search rules, next_given expressions _ s.pre.1.0 r.expression-first.ensures x.first-1.given.1))
     (λ c κs.
-    let x : InTwoExpressions t two_expressions_lts.After-first = search in
-    let r : InTwoExpressions t two_expressions_lts.After-expression = search in
-    let k : InTwoExpressions t two_expressions_lts.After-shared-slice-known = search in
+    let x : InTwoExpressions t two_expressions_lts.In-Read-2 = search in
+    let r : InTwoExpressions t two_expressions_lts.After-expression-first = search in
+    let k : InTwoExpressions t two_expressions_lts.After-shared_slice_known-1 = search in
     let s : InTwoExpressions t two_expressions_lts.Start = search in
-    let bytes : Bytes s.args.text.now = λ i. (k.shared-slice-known.given i).fits in
+    let bytes : Bytes s.args.text.now = λ i. (k.shared_slice_known-1.given i).fits in
     let short = s.pre.1.0.short in
     room 4096 4096 _ _ _ _ (omega arith)
-    (rw x.first.given.1 at (expression_small _ bytes short _ _ _ _ _ r.expression.ensures))
-    (expression_small _ bytes short _ _ _ _ _ c.expression2.ensures))
+    (rw x.first-1.given.1 at (expression_small _ bytes short _ _ _ _ _ r.expression-first.ensures))
+    (expression_small _ bytes short _ _ _ _ _ c.expression.ensures))
     (λ c.
-    let x : InTwoExpressions t two_expressions_lts.After-first = search in
-    let r : InTwoExpressions t two_expressions_lts.After-expression = search in
-    let second = c.before.expression2.ensures in (
+    let x : InTwoExpressions t two_expressions_lts.In-Read-2 = search in
+    let r : InTwoExpressions t two_expressions_lts.After-expression-first = search in
+    let second = c.before.expression.ensures in (
       two _ expressions expressions expressions Plus (reading _ _) (reading _ _) _ _ _ _ _ 1 1 plus_alike
-          r.expression.ensures x.first.given.1 second c.joined.ensures,
+          r.expression-first.ensures x.first-1.given.1 second c.joined.ensures,
       λ flag. two _ (conditions flag) expressions expressions Less (reading _ _) (reading _ _) _ _ _ _ _ 1 1
-          (less_alike flag) r.expression.ensures x.first.given.1 second c.joined.ensures,
+          (less_alike flag) r.expression-first.ensures x.first-1.given.1 second c.joined.ensures,
     )))

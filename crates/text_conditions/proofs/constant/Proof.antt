@@ -22,19 +22,19 @@ constant_spec =
     (λ c. search rules)
     (λ c κs. search rules)
     (λ c m.
-    let w : tie.After-constant-width = search in
+    let w : tie.After-constant_width-width = search in
     let s : tie.Start = search in
     let a = s.args in
     let width = constant_width (get_or a.text.now a.at 0) in
-    rw (lt-leb (a.at + 1 + width) (length a.text.now) (omega (arith, w.constant_width.ensures)))
+    rw (lt-leb (a.at + 1 + width) (length a.text.now) (omega (arith, w.constant_width-width.ensures)))
     (declines numbers _ _ c.decline.ensures))
     (λ c. search rules)
     (λ c. search rules)
     (λ c m.
-    let w : tie.After-constant-width = search in
+    let w : tie.After-constant_width-width = search in
     let s : tie.Start = search in
     let a = s.args in
     let width = constant_width (get_or a.text.now a.at 0) in
-    let is = w.constant_width.ensures in
+    let is = w.constant_width-width.ensures in
     rw (le-leb (a.at + 1 + width) (length a.text.now) (omega arith), is)
     (tells numbers _ _ _ _ (noted_none m))))

@@ -24,20 +24,20 @@ value_spec =
     (λ c. search rules)
     (λ c κs. search rules)
     (λ c m.
-    let large : tie.Then2 = search in
+    let large : tie.Then-v-gt1 = search in
     let s : tie.Start = search in
     let a = s.args in
-    rw (le-leb (a.at + 1) (length a.text.now) (omega arith), lt-leb _ 1 large.if2.taken)
-    (declines _ _ _ c.decline2.ensures))
+    rw (le-leb (a.at + 1) (length a.text.now) (omega arith), lt-leb _ 1 large.if-v-gt1.true)
+    (declines _ _ _ c.decline-then-v-gt1.ensures))
     (λ c κs. search rules)
     (λ c. search rules)
     (λ c m.
-    let small : tie.Else2 = search in
+    let small : tie.Else-v-gt1 = search in
     let s : tie.Start = search in
     let a = s.args in
     rw (
       le-leb (a.at + 1) (length a.text.now) (omega arith),
-      le-leb _ 1 small.if2.left,
-      c.value-records.ensures,
+      le-leb _ 1 small.if-v-gt1.left,
+      c.value_records.ensures,
     )
     (tells (values a.flag) _ _ _ _ (noted_none m))))

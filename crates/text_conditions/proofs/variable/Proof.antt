@@ -24,17 +24,17 @@ variable_spec =
     (λ c. search rules)
     (λ c κs. search rules)
     (λ c.
-    let large : tie.Then2 = search in
+    let large : tie.Then-v-gt-LAST_VARIABLE = search in
     let s : tie.Start = search in
     let a = s.args in
-    rw (le-leb (a.at + 1) (length a.text.now) (omega arith), lt-leb _ 63 large.if2.taken)
-    (declines _ _ _ c.decline2.ensures))
+    rw (le-leb (a.at + 1) (length a.text.now) (omega arith), lt-leb _ 63 large.if-v-gt-LAST_VARIABLE.true)
+    (declines _ _ _ c.decline-then-v-gt-LAST_VARIABLE.ensures))
     (λ c. search rules)
     (λ c. search rules)
     (λ c. search rules)
     (λ c.
-    let small : tie.Else2 = search in
+    let small : tie.Else-v-gt-LAST_VARIABLE = search in
     let s : tie.Start = search in
     let a = s.args in
-    rw (le-leb (a.at + 1) (length a.text.now) (omega arith), le-leb _ 63 small.if2.left)
+    rw (le-leb (a.at + 1) (length a.text.now) (omega arith), le-leb _ 63 small.if-v-gt-LAST_VARIABLE.left)
     (tells variables _ _ _ _ (noted_one _ _ s.pre (omega arith)))))

@@ -9,53 +9,53 @@ use Rattle.text_ends.proofs.Finding.{not_there, found_here, found_later, found_n
 use Rattle.text_ends.proofs.first_loop.Statement.{statement}
 use Rattle.text_ends.proofs.first_loop.Tie as tie
 
-abbrev invariant-loop : tie.invariant-loop
-invariant-loop text at₀ at = at + first 0x04 (drop at text) ≡ first 0x04 text
+abbrev invariant-loop-at : tie.invariant-loop-at
+invariant-loop-at text at₀ at = at + first 0x04 (drop at text) ≡ first 0x04 text
 
-abbrev decreases-loop : tie.decreases-loop
-decreases-loop text at₀ at = length text - at
+abbrev decreases-loop-at : tie.decreases-loop-at
+decreases-loop-at text at₀ at = length text - at
 
 pub first_loop_spec : {M : Type 1} → statement M
 first_loop_spec =
     tie.close
     (tie.spec
-    invariant-loop
-    decreases-loop
+    invariant-loop-at
+    decreases-loop-at
     (λ c κs. search rules)
     -- returns
     (λ c.
-    let n : tie.After-loop-bytes invariant-loop decreases-loop = search in
-    not_there 0x04 _ (sym n.loop-bytes.ensures ∙ c.if1.true))
+    let n : tie.After-loop_bytes invariant-loop-at decreases-loop-at = search in
+    not_there 0x04 _ (sym n.loop_bytes.ensures ∙ c.if-loop_bytes-eq0.true))
     -- loop-holds
     (λ c. omega arith)
     (λ c. search rules)
     -- returns-2
     (λ c.
-    let on : tie.In-loop invariant-loop decreases-loop = search in
-    let turn : tie.At-loop invariant-loop decreases-loop = search in
-    let s : tie.Start invariant-loop decreases-loop = search in
+    let on : tie.In-loop-at invariant-loop-at decreases-loop-at = search in
+    let turn : tie.At-loop-at invariant-loop-at decreases-loop-at = search in
+    let s : tie.Start invariant-loop-at decreases-loop-at = search in
     omega (
       arith,
-      found_here 0x04 s.args.text.now turn.loop.at on.loop-test.taken
-          c.if2.true,
-      turn.loop.inv,
+      found_here 0x04 s.args.text.now turn.loop-at.at on.loop-at-test.taken
+          c.if-text-at-eq-WHILE.true,
+      turn.loop-at.inv,
     ))
     (λ c. search rules)
     (λ c. search rules)
     -- loop-again
     (λ c.
-    let off : tie.Else2 invariant-loop decreases-loop = search in
-    let on : tie.In-loop invariant-loop decreases-loop = search in
-    let turn : tie.At-loop invariant-loop decreases-loop = search in
-    let s : tie.Start invariant-loop decreases-loop = search in
+    let off : tie.Else-text-at-eq-WHILE invariant-loop-at decreases-loop-at = search in
+    let on : tie.In-loop-at invariant-loop-at decreases-loop-at = search in
+    let turn : tie.At-loop-at invariant-loop-at decreases-loop-at = search in
+    let s : tie.Start invariant-loop-at decreases-loop-at = search in
     omega (
       arith,
-      found_later 0x04 s.args.text.now turn.loop.at on.loop-test.taken
-          off.if2.left,
-      turn.loop.inv,
+      found_later 0x04 s.args.text.now turn.loop-at.at on.loop-at-test.taken
+          off.if-text-at-eq-WHILE.left,
+      turn.loop-at.inv,
     ))
     -- returns-3
     (λ c.
-    let turn : tie.At-loop invariant-loop decreases-loop = search in
-    let s : tie.Start invariant-loop decreases-loop = search in
-    omega (arith, found_nowhere 0x04 s.args.text.now turn.loop.at c.loop-test.false, turn.loop.inv)))
+    let turn : tie.At-loop-at invariant-loop-at decreases-loop-at = search in
+    let s : tie.Start invariant-loop-at decreases-loop-at = search in
+    omega (arith, found_nowhere 0x04 s.args.text.now turn.loop-at.at c.loop-at-test.false, turn.loop-at.inv)))

@@ -17,49 +17,49 @@ record Noted (text ends₀ ends : List ℕ) (at : ℕ) : Type 0 where
   long : length ends ≡ length ends₀
   inside : at ≤ length text
 
-abbrev invariant-loop : tie.invariant-loop
-invariant-loop text from ends₀ at₀ ends at = Noted text ends₀ ends at
+abbrev invariant-loop-at : tie.invariant-loop-at
+invariant-loop-at text from ends₀ at₀ ends at = Noted text ends₀ ends at
 
-abbrev decreases-loop : tie.decreases-loop
-decreases-loop text from ends₀ at₀ ends at = at
+abbrev decreases-loop-at : tie.decreases-loop-at
+decreases-loop-at text from ends₀ at₀ ends at = at
 
 pub note_ends_spec : {M : Type 1} → statement M
 note_ends_spec =
     tie.close
     (tie.spec
-    invariant-loop
-    decreases-loop
+    invariant-loop-at
+    decreases-loop-at
     -- loop-holds
     (λ c.
-    let s : tie.Start invariant-loop decreases-loop = search in
+    let s : tie.Start invariant-loop-at decreases-loop-at = search in
     record { right = s.pre.0; first = λ n. s.pre.1; long = refl; inside = omega arith })
     (λ c. search rules)
     -- end-at-requires
     (λ c κs.
-    let on : tie.In-loop invariant-loop decreases-loop = search in
-    let turn : tie.At-loop invariant-loop decreases-loop = search in
-    let i = turn.loop.inv in (
-      omega (arith, i.inside, on.loop-test.taken),
-      (i.right, i.first (λ z. absurd (omega (arith, on.loop-test.taken)))),
+    let on : tie.In-loop-at invariant-loop-at decreases-loop-at = search in
+    let turn : tie.At-loop-at invariant-loop-at decreases-loop-at = search in
+    let i = turn.loop-at.inv in (
+      omega (arith, i.inside, on.loop-at-test.taken),
+      (i.right, i.first (λ z. absurd (omega (arith, on.loop-at-test.taken)))),
     ))
     (λ c κs. search rules)
     -- loop-less
-    (λ c. let on : tie.In-loop invariant-loop decreases-loop = search in omega (arith, on.loop-test.taken))
+    (λ c. let on : tie.In-loop-at invariant-loop-at decreases-loop-at = search in omega (arith, on.loop-at-test.taken))
     -- loop-again
     (λ c.
-    let r : tie.After-remember invariant-loop decreases-loop = search in
-    let e : tie.After-end-at invariant-loop decreases-loop = search in
-    let on : tie.In-loop invariant-loop decreases-loop = search in
-    let turn : tie.At-loop invariant-loop decreases-loop = search in
-    let i = turn.loop.inv in
+    let r : tie.After-remember invariant-loop-at decreases-loop-at = search in
+    let e : tie.After-end_at-end invariant-loop-at decreases-loop-at = search in
+    let on : tie.In-loop-at invariant-loop-at decreases-loop-at = search in
+    let turn : tie.At-loop-at invariant-loop-at decreases-loop-at = search in
+    let i = turn.loop-at.inv in
     let is = r.remember.ensures in
     record {
-      right = rw is (stays_if i.right _ _ e.end-at.ensures);
-      first = λ n. rw is (noted_other _ _ _ n ∙ i.first (λ z. absurd (omega (arith, on.loop-test.taken))));
+      right = rw is (stays_if i.right _ _ e.end_at-end.ensures);
+      first = λ n. rw is (noted_other _ _ _ n ∙ i.first (λ z. absurd (omega (arith, on.loop-at-test.taken))));
       long = rw is (length_noted _ _ _ ∙ i.long);
       inside = omega (arith, i.inside);
     })
     -- same-length
-    (λ c. let turn : tie.At-loop invariant-loop decreases-loop = search in turn.loop.inv.long)
+    (λ c. let turn : tie.At-loop-at invariant-loop-at decreases-loop-at = search in turn.loop-at.inv.long)
     -- returns
-    (λ c. let turn : tie.At-loop invariant-loop decreases-loop = search in turn.loop.inv.right))
+    (λ c. let turn : tie.At-loop-at invariant-loop-at decreases-loop-at = search in turn.loop-at.inv.right))

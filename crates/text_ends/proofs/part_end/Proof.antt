@@ -12,10 +12,10 @@ part_end_spec =
     (λ c κs. search rules)
     -- returns
     (λ c.
-    let k : tie.After-recall = search in
+    let k : tie.After-recall-known = search in
     let s : tie.Start = search in
-    let e = k.recall.ensures in
+    let e = k.recall-known.ensures in
     subst (Row s.args.text.now s.args.start 1) (sym e)
-    (s.pre.1.right s.args.start (λ z. c.if1.true (e ∙ z))))
+    (s.pre.1.right s.args.start (λ z. c.if-known-ne0.true (e ∙ z))))
     (λ c κs. search rules)
     (λ c. search rules))

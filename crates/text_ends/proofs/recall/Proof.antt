@@ -14,4 +14,4 @@ recall_spec =
     (λ c κs. search rules)
     (λ c. search rules)
     -- returns-2
-    (λ c. let s : tie.Start = search in sym (get_or-eq_default s.args.cache.now 0 c.if1.false)))
+    (λ c. let s : tie.Start = search in sym (get_or-eq_default s.args.cache.now 0 c.if-at-cache.false)))

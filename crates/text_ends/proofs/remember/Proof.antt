@@ -14,6 +14,6 @@ remember_spec =
     (λ c. search rules)
     (λ c. search rules)
     -- returns
-    (λ c. sym (noted_in _ _ _ c.if2.true))
-    (λ c. sym (noted_large _ _ _ c.if2.false))
-    (λ c. sym (noted_out _ _ _ c.if1.false)))
+    (λ c. sym (noted_in _ _ _ c.if-value-lt65536.true))
+    (λ c. sym (noted_large _ _ _ c.if-value-lt65536.false))
+    (λ c. sym (noted_out _ _ _ c.if-at-cache.false)))

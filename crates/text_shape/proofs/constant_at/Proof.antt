@@ -22,29 +22,29 @@ constant z w = record { value = z; width = w }
 abbrev spelled : tie.Start → Width
 spelled s = width_of (get_or s.args.text.now s.args.at 0)
 
-returns : tie.Need-returns
+returns : tie.Need-returns-then-width-eq1
 unfolding constant
 returns c =
-    let n : tie.After-byte-number = search in
-    let on : tie.Then1 = search in
-    let w : tie.After-constant-width = search in
+    let n : tie.After-byte_number = search in
+    let on : tie.Then-width-eq1 = search in
+    let w : tie.After-constant_width-width = search in
     let s : tie.Start = search in
-    let width = w.constant_width.ensures in
-    let one = one_byte_is (spelled s) (sym width ∙ on.if1.taken) in
+    let width = w.constant_width-width.ensures in
+    let one = one_byte_is (spelled s) (sym width ∙ on.if-width-eq1.true) in
     let value = ap (λ k. operand_number k s.args.text.now (s.args.at + 1)) (sym one) in
-    ap₂ constant (read_back w32 n.byte_number.ok (n.byte_number.ensures ∙ value)) width
+    ap₂ constant (read_back w32 n.byte_number.type_inv (n.byte_number.ensures ∙ value)) width
 
-returns_2 : tie.Need-returns-2
+returns_2 : tie.Need-returns
 unfolding constant
 returns_2 c =
-    let n : tie.After-number-at = search in
-    let off : tie.Else1 = search in
-    let w : tie.After-constant-width = search in
+    let n : tie.After-number_at = search in
+    let off : tie.Else-width-eq1 = search in
+    let w : tie.After-constant_width-width = search in
     let s : tie.Start = search in
-    let width = w.constant_width.ensures in
-    let four = four_bytes_is (spelled s) (λ e. off.if1.left (width ∙ e)) in
+    let width = w.constant_width-width.ensures in
+    let four = four_bytes_is (spelled s) (λ e. off.if-width-eq1.false (width ∙ e)) in
     let value = ap (λ k. operand_number k s.args.text.now (s.args.at + 1)) (sym four) in
-    ap₂ constant (read_back w32 n.number_at.ok (n.number_at.ensures ∙ value)) width
+    ap₂ constant (read_back w32 n.number_at.type_inv (n.number_at.ensures ∙ value)) width
 
 pub constant_at_spec : {M : Type 1} → statement M
 constant_at_spec =
@@ -58,8 +58,8 @@ constant_at_spec =
     returns
     (λ c. search rules)
     (λ c κs.
-    let w : tie.After-constant-width = search in
+    let w : tie.After-constant_width-width = search in
     let s : tie.Start = search in
-    let four = four_bytes_is (spelled s) (λ e. c.if1.false (w.constant_width.ensures ∙ e)) in
-    omega (arith, rw four at s.pre))
+    let four = four_bytes_is (spelled s) (λ e. c.if-width-eq1.false (w.constant_width-width.ensures ∙ e)) in
+    omega (arith, rw four at s.requires))
     returns_2)
