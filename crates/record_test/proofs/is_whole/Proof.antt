@@ -5,4 +5,4 @@ use Rattle.record_test.proofs.is_whole.Tie as tie
 
 pub is_whole_spec : {M : Type 1} → statement M
 is_whole_spec =
-    tie.close (tie.spec (λ c. simp (ne_eqb _ _ c.if1.true)) (λ c. simp (eq-eqb _ _ c.if1.false)))
+    tie.close (tie.spec (λ c. simp (ne_eqb _ _ c.if-code-ne0.true)) (λ c. simp (eq-eqb _ _ c.if-code-ne0.false)))

@@ -27,67 +27,67 @@ number code n fits is_whole records fit =
     λ i. and_then (unless is_whole i refuse 9 at 0 else
     and_then (records i) (λ P. unless fit i refuse 11 at 0 else gives P)) (λ P. gives (length P))
 
-refused_9 : tie.Need-returns
+refused_9 : tie.Need-returns-then-not-is_whole
 unfolding and_then
 refused_9 c =
-    let no : tie.Then1 = search in
-    let w : tie.After-is-whole = search in
+    let no : tie.Then-not-is_whole = search in
+    let w : tie.After-is_whole = search in
     let a : tie.Start = search in
     let s = a.args in
     c.decline.ensures
     ∙ sym
-    (number s.code.now s.cells s.fits (sym w.is_whole.ensures ∙ not-true _ no.if1.taken) refl
+    (number s.code.now s.cells s.fits (sym w.is_whole.ensures ∙ not-true _ no.if-not-is_whole.true) refl
     refl)
 
-refused_10 : tie.Need-returns-2
+refused_10 : tie.Need-returns-then-place-last
 unfolding and_then
 refused_10 c =
-    let no : tie.Then2 = search in
-    let f : tie.After-mismatch = search in
+    let no : tie.Then-place-last = search in
+    let f : tie.After-mismatch-place = search in
     let k : tie.After-machine = search in
-    let whole : tie.Else1 = search in
-    let w : tie.After-is-whole = search in
+    let whole : tie.Else-not-is_whole = search in
+    let w : tie.After-is_whole = search in
     let a : tie.Start = search in
     let s = a.args in
-    c.decline2.ensures
+    c.decline-then-place-last.ensures
     ∙ sym
-    (number s.code.now s.cells s.fits (sym w.is_whole.ensures ∙ not-false _ whole.if1.left)
-    ((tested_as _ _ (machine_same s.cells) s.code.now k.machine.ensures f.mismatch.ensures).fails
-    no.if2.taken) refl)
+    (number s.code.now s.cells s.fits (sym w.is_whole.ensures ∙ not-false _ whole.if-not-is_whole.false)
+    ((tested_as _ _ (machine_same s.cells) s.code.now k.machine.ensures f.mismatch-place.ensures).fails
+    no.if-place-last.true) refl)
 
-refused_11 : tie.Need-returns-3
+refused_11 : tie.Need-returns-then-not-fits
 unfolding and_then
 refused_11 c =
-    let no : tie.Then3 = search in
-    let all : tie.Else2 = search in
-    let f : tie.After-mismatch = search in
+    let no : tie.Then-not-fits = search in
+    let all : tie.Else-place-last = search in
+    let f : tie.After-mismatch-place = search in
     let k : tie.After-machine = search in
-    let whole : tie.Else1 = search in
-    let w : tie.After-is-whole = search in
+    let whole : tie.Else-not-is_whole = search in
+    let w : tie.After-is_whole = search in
     let a : tie.Start = search in
     let s = a.args in
-    let t = tested_as _ _ (machine_same s.cells) s.code.now k.machine.ensures f.mismatch.ensures in
-    c.decline3.ensures
+    let t = tested_as _ _ (machine_same s.cells) s.code.now k.machine.ensures f.mismatch-place.ensures in
+    c.decline-then-not-fits.ensures
     ∙ sym
-    (number s.code.now s.cells s.fits (sym w.is_whole.ensures ∙ not-false _ whole.if1.left)
-    (t.passes (omega (arith, t.at_most, all.if2.left))).1 (not-true _ no.if3.taken))
+    (number s.code.now s.cells s.fits (sym w.is_whole.ensures ∙ not-false _ whole.if-not-is_whole.false)
+    (t.passes (omega (arith, t.at_most, all.if-place-last.left))).1 (not-true _ no.if-not-fits.true))
 
-passed : tie.Need-returns-4
+passed : tie.Need-returns
 unfolding and_then
 passed c =
-    let all : tie.Else2 = search in
-    let f : tie.After-mismatch = search in
+    let all : tie.Else-place-last = search in
+    let f : tie.After-mismatch-place = search in
     let k : tie.After-machine = search in
-    let whole : tie.Else1 = search in
-    let w : tie.After-is-whole = search in
+    let whole : tie.Else-not-is_whole = search in
+    let w : tie.After-is_whole = search in
     let a : tie.Start = search in
     let s = a.args in
-    let t = tested_as _ _ (machine_same s.cells) s.code.now k.machine.ensures f.mismatch.ensures in
-    let P = t.passes (omega (arith, t.at_most, all.if2.left)) in
+    let t = tested_as _ _ (machine_same s.cells) s.code.now k.machine.ensures f.mismatch-place.ensures in
+    let P = t.passes (omega (arith, t.at_most, all.if-place-last.false)) in
     ap gives (sym (records_length (machine_kind s.cells) s.code.now 0 (record_count s.code.now) P.1))
     ∙ sym
-    (number s.code.now s.cells s.fits (sym w.is_whole.ensures ∙ not-false _ whole.if1.left) P.1
-    (not-false _ c.if3.false))
+    (number s.code.now s.cells s.fits (sym w.is_whole.ensures ∙ not-false _ whole.if-not-is_whole.false) P.1
+    (not-false _ c.if-not-fits.false))
 
 pub test_machine_spec : {M : Type 1} → statement M
 test_machine_spec =

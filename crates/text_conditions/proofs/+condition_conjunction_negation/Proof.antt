@@ -118,31 +118,31 @@ unfolding condition_of decline
     let h : InCondition t condition_lts.Else-text-at = search in
     let s : InCondition t condition_lts.Start = search in
     let flag = s.args.flag in
-    rw (heads.condition_at _ _ _ h.if-text-at.left n.if-nest-eq0.left, is_truth c.before.in-32.keys1)
+    rw (heads.condition_at _ _ _ h.if-text-at.left n.if-nest-eq0.left, is_truth c.before.in-32.is)
     (one _ (conditions flag) (values flag) (λ v. Bc (eqb v 1)) (operand _ 1) _ _ _ _ (value_alike flag)
     (c.value.ensures _)))
     (λ c.
     let b : InCondition t condition_lts.In-33 = search in
     let n : InCondition t condition_lts.Else-nest-eq0 = search in
     let h : InCondition t condition_lts.Else-text-at = search in
-    rw (heads.condition_at _ _ _ h.if-text-at.left n.if-nest-eq0.left, is_negation b.in-32.keys2)
+    rw (heads.condition_at _ _ _ h.if-text-at.left n.if-nest-eq0.left, is_negation b.in-33.is)
     c.negation.ensures)
     (λ c.
     let b : InCondition t condition_lts.In-34 = search in
     let n : InCondition t condition_lts.Else-nest-eq0 = search in
     let h : InCondition t condition_lts.Else-text-at = search in
-    rw (heads.condition_at _ _ _ h.if-text-at.left n.if-nest-eq0.left, is_conjunction b.in-32.keys3)
+    rw (heads.condition_at _ _ _ h.if-text-at.left n.if-nest-eq0.left, is_conjunction b.in-34.is)
     c.conjunction.ensures)
     (λ c.
     let b : InCondition t condition_lts.In-35 = search in
     let n : InCondition t condition_lts.Else-nest-eq0 = search in
     let h : InCondition t condition_lts.Else-text-at = search in
-    rw (heads.condition_at _ _ _ h.if-text-at.left n.if-nest-eq0.left, is_comparison b.in-32.keys4)
+    rw (heads.condition_at _ _ _ h.if-text-at.left n.if-nest-eq0.left, is_comparison b.in-35.is)
     (c.two_expressions.ensures.1 _))
     (λ c.
     let n : InCondition t condition_lts.Else-nest-eq0 = search in
     let h : InCondition t condition_lts.Else-text-at = search in
-    let no = c.before.in-32.rest in
+    let no = c.before.match.rest in
     rw (
       heads.condition_at _ _ _ h.if-text-at.left n.if-nest-eq0.left,
       is_no_condition no.0.0.0.1 no.0.0.1 no.0.1 no.1,
@@ -157,29 +157,29 @@ unfolding condition_of decline
     let r : InConjunction t conjunction_lts.After-condition-first = search in
     let s : InConjunction t conjunction_lts.Start = search in
     first_ends _ (conditions s.args.flag) (conditions false) (reading _ _) _ _ _ _ _ _
-    r.condition-first.ensures c.enum_told-1.given.1)
+    r.condition-first.ensures c.enum_told.given.1)
     (λ c κs.
-    let x : InConjunction t conjunction_lts.In-Read-2 = search in
+    let x : InConjunction t conjunction_lts.In-Read = search in
     let r : InConjunction t conjunction_lts.After-condition-first = search in
     let s : InConjunction t conjunction_lts.Start = search in
-    (search rules, next_given (conditions false) _ s.pre.1.0 r.condition-first.ensures x.first-1.given.1))
+    (search rules, next_given (conditions false) _ s.pre.1.0 r.condition-first.ensures x.in-Read.is))
     (λ c κs.
-    let x : InConjunction t conjunction_lts.In-Read-2 = search in
+    let x : InConjunction t conjunction_lts.In-Read = search in
     let r : InConjunction t conjunction_lts.After-condition-first = search in
     let k : InConjunction t conjunction_lts.After-shared_slice_known-1 = search in
     let s : InConjunction t conjunction_lts.Start = search in
     let bytes : Bytes s.args.text.now = λ i. (k.shared_slice_known-1.given i).fits in
     let short = s.pre.1.0.short in
     room 4096 4096 _ _ _ _ (omega arith)
-    (rw x.first-1.given.1 at (condition_small _ bytes short _ _ _ _ _ _ r.condition-first.ensures))
+    (rw x.in-Read.is at (condition_small _ bytes short _ _ _ _ _ _ r.condition-first.ensures))
     (condition_small _ bytes short _ _ _ _ _ _ c.condition.ensures))
     (λ c.
-    let x : InConjunction t conjunction_lts.In-Read-2 = search in
+    let x : InConjunction t conjunction_lts.In-Read = search in
     let r : InConjunction t conjunction_lts.After-condition-first = search in
     let s : InConjunction t conjunction_lts.Start = search in
     let flag = s.args.flag in
     two _ (conditions flag) (conditions false) (conditions flag) And (reading _ _) (reading _ _) _ _ _ _ _ 0 0
-    (and_alike flag) r.condition-first.ensures x.first-1.given.1 c.before.condition.ensures
+    (and_alike flag) r.condition-first.ensures x.in-Read.is c.before.condition.ensures
     c.joined.ensures))
     (λ t. negation_lts.spec (negation_claims t) (at negation t) negation.post
     (λ c. search rules)

@@ -100,24 +100,24 @@ unfolding expression_of condition_of decline
     (λ c κs. search rules)  -- Plus
     (λ c κs.
     let h : InExpression t expression_lts.Else-text-at = search in
-    let no = c.in-16.rest in
+    let no = c.match.rest in
     (h.if-text-at.left, (no.0.0.1, (no.0.1, no.1))))  -- neither
     (λ c.
     let n : InExpression t expression_lts.Else-nest-eq0 = search in
     let h : InExpression t expression_lts.Else-text-at = search in
     rw (heads.expression_at _ _ _ h.if-text-at.left n.if-nest-eq0.left)
-    (constant_told _ _ _ _ _ (inl c.before.in-16.keys1) (c.constant.ensures _)))
+    (constant_told _ _ _ _ _ (inl c.before.in-16.is) (c.constant.ensures _)))
     (λ c.
     let b : InExpression t expression_lts.In-17 = search in
     let n : InExpression t expression_lts.Else-nest-eq0 = search in
     let h : InExpression t expression_lts.Else-text-at = search in
-    rw (heads.expression_at _ _ _ h.if-text-at.left n.if-nest-eq0.left, is_variable b.in-16.keys2)
+    rw (heads.expression_at _ _ _ h.if-text-at.left n.if-nest-eq0.left, is_variable b.in-17.is)
     (one _ expressions variables Variable (operand _ 63) _ _ _ _ variable_alike c.variable.ensures))
     (λ c.
     let b : InExpression t expression_lts.In-18 = search in
     let n : InExpression t expression_lts.Else-nest-eq0 = search in
     let h : InExpression t expression_lts.Else-text-at = search in
-    rw (heads.expression_at _ _ _ h.if-text-at.left n.if-nest-eq0.left, is_plus b.in-16.keys3)
+    rw (heads.expression_at _ _ _ h.if-text-at.left n.if-nest-eq0.left, is_plus b.in-18.is)
     c.two_expressions.ensures.0)
     (λ c.
     let n : InExpression t expression_lts.Else-nest-eq0 = search in
@@ -131,31 +131,31 @@ unfolding expression_of condition_of decline
     (λ c.
     let r : InTwoExpressions t two_expressions_lts.After-expression-first = search in
     let first = r.expression-first.ensures in
-    let no = c.enum_told-1.given.1 in (
+    let no = c.enum_told.given.1 in (
       first_ends _ expressions expressions (reading _ _) _ _ _ _ _ _ first no,
       λ flag. first_ends _ (conditions flag) expressions (reading _ _) _ _ _ _ _ _ first no,
     ))
     (λ c κs.
-    let x : InTwoExpressions t two_expressions_lts.In-Read-2 = search in
+    let x : InTwoExpressions t two_expressions_lts.In-Read = search in
     let r : InTwoExpressions t two_expressions_lts.After-expression-first = search in
     let s : InTwoExpressions t two_expressions_lts.Start = search in
-    (search rules, next_given expressions _ s.pre.1.0 r.expression-first.ensures x.first-1.given.1))
+    (search rules, next_given expressions _ s.pre.1.0 r.expression-first.ensures x.in-Read.is))
     (λ c κs.
-    let x : InTwoExpressions t two_expressions_lts.In-Read-2 = search in
+    let x : InTwoExpressions t two_expressions_lts.In-Read = search in
     let r : InTwoExpressions t two_expressions_lts.After-expression-first = search in
     let k : InTwoExpressions t two_expressions_lts.After-shared_slice_known-1 = search in
     let s : InTwoExpressions t two_expressions_lts.Start = search in
     let bytes : Bytes s.args.text.now = λ i. (k.shared_slice_known-1.given i).fits in
     let short = s.pre.1.0.short in
     room 4096 4096 _ _ _ _ (omega arith)
-    (rw x.first-1.given.1 at (expression_small _ bytes short _ _ _ _ _ r.expression-first.ensures))
+    (rw x.in-Read.is at (expression_small _ bytes short _ _ _ _ _ r.expression-first.ensures))
     (expression_small _ bytes short _ _ _ _ _ c.expression.ensures))
     (λ c.
-    let x : InTwoExpressions t two_expressions_lts.In-Read-2 = search in
+    let x : InTwoExpressions t two_expressions_lts.In-Read = search in
     let r : InTwoExpressions t two_expressions_lts.After-expression-first = search in
     let second = c.before.expression.ensures in (
       two _ expressions expressions expressions Plus (reading _ _) (reading _ _) _ _ _ _ _ 1 1 plus_alike
-          r.expression-first.ensures x.first-1.given.1 second c.joined.ensures,
+          r.expression-first.ensures x.in-Read.is second c.joined.ensures,
       λ flag. two _ (conditions flag) expressions expressions Less (reading _ _) (reading _ _) _ _ _ _ _ 1 1
-          (less_alike flag) r.expression-first.ensures x.first-1.given.1 second c.joined.ensures,
+          (less_alike flag) r.expression-first.ensures x.in-Read.is second c.joined.ensures,
     )))

@@ -12,27 +12,27 @@ joined_spec =
     (tie.spec
     (λ c. search rules)
     (λ c. search rules)
-    (λ c. rw c.enum_told-1.given.1)
+    (λ c. rw c.enum_told.given.1)
     (λ c. search rules)
     (λ c. search rules)
-    (λ c. let f : tie.In-Read-2 = search in rw (f.first-1.given.1, c.enum_told-in_default-second-1.given.1))
+    (λ c. let f : tie.In-Read = search in rw (f.in-Read.is, c.in_default-second.is))
     (λ c.
-    let s : tie.In-Read-second-2 = search in
-    let f : tie.In-Read-2 = search in
+    let s : tie.In-Read-second = search in
+    let f : tie.In-Read = search in
     let b : tie.Start = search in
-    omega (arith, rw (f.first-1.given.1, s.second-1.given.1) at b.pre))
+    omega (arith, rw (f.in-Read.is, s.in-Read-second.is) at b.pre))
     (λ c.
-    let s : tie.In-Read-second-2 = search in
-    let f : tie.In-Read-2 = search in
+    let s : tie.In-Read-second = search in
+    let f : tie.In-Read = search in
     let b : tie.Start = search in
-    omega (arith, rw (f.first-1.given.1, s.second-1.given.1) at b.pre))
+    omega (arith, rw (f.in-Read.is, s.in-Read-second.is) at b.pre))
     (λ c.
-    let s : tie.In-Read-second-2 = search in
-    let f : tie.In-Read-2 = search in
+    let s : tie.In-Read-second = search in
+    let f : tie.In-Read = search in
     let b : tie.Start = search in
-    omega (arith, rw (f.first-1.given.1, s.second-1.given.1) at b.pre))
+    omega (arith, rw (f.in-Read.is, s.in-Read-second.is) at b.pre))
     (λ c κs. search rules)
     (λ c.
-    let s : tie.In-Read-second-2 = search in
-    let f : tie.In-Read-2 = search in
-    rw (f.first-1.given.1, s.second-1.given.1, ← c.larger.ensures)))
+    let s : tie.In-Read-second = search in
+    let f : tie.In-Read = search in
+    rw (f.in-Read.is, s.in-Read-second.is, ← c.larger.ensures)))

@@ -36,9 +36,9 @@ first_loop_spec =
     let s : tie.Start invariant-loop-at decreases-loop-at = search in
     omega (
       arith,
-      found_here 0x04 s.args.text.now turn.loop-at.at on.loop-at-test.taken
+      found_here 0x04 s.args.text.now turn.loop-at.at on.loop-at-test.true
           c.if-text-at-eq-WHILE.true,
-      turn.loop-at.inv,
+      turn.loop-at.invariant,
     ))
     (λ c. search rules)
     (λ c. search rules)
@@ -50,12 +50,12 @@ first_loop_spec =
     let s : tie.Start invariant-loop-at decreases-loop-at = search in
     omega (
       arith,
-      found_later 0x04 s.args.text.now turn.loop-at.at on.loop-at-test.taken
+      found_later 0x04 s.args.text.now turn.loop-at.at on.loop-at-test.true
           off.if-text-at-eq-WHILE.left,
-      turn.loop-at.inv,
+      turn.loop-at.invariant,
     ))
     -- returns-3
     (λ c.
     let turn : tie.At-loop-at invariant-loop-at decreases-loop-at = search in
     let s : tie.Start invariant-loop-at decreases-loop-at = search in
-    omega (arith, found_nowhere 0x04 s.args.text.now turn.loop-at.at c.loop-at-test.false, turn.loop-at.inv)))
+    omega (arith, found_nowhere 0x04 s.args.text.now turn.loop-at.at c.loop-at-test.false, turn.loop-at.invariant)))

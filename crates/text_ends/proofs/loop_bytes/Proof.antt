@@ -26,7 +26,7 @@ loop_again c =
     let i = turn.loop-at.at in
     let h : i < length t = going.loop-at-test.true in
     ⊎_elim
-    (λ w. (search rules, omega (arith, w.1), omega (arith, w.1, one_more 0x04 t i h w.0.taken)))
+    (λ w. (search rules, omega (arith, w.1), omega (arith, w.1, one_more 0x04 t i h w.0.true)))
     (λ w. (search rules, omega (arith, w.1), omega (arith, w.1, no_more 0x04 t i h w.0.left)))
     c.if-text-at-eq-WHILE.branch
 

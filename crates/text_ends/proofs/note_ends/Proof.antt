@@ -38,28 +38,28 @@ note_ends_spec =
     (λ c κs.
     let on : tie.In-loop-at invariant-loop-at decreases-loop-at = search in
     let turn : tie.At-loop-at invariant-loop-at decreases-loop-at = search in
-    let i = turn.loop-at.inv in (
-      omega (arith, i.inside, on.loop-at-test.taken),
-      (i.right, i.first (λ z. absurd (omega (arith, on.loop-at-test.taken)))),
+    let i = turn.loop-at.invariant in (
+      omega (arith, i.inside, on.loop-at-test.true),
+      (i.right, i.first (λ z. absurd (omega (arith, on.loop-at-test.true)))),
     ))
     (λ c κs. search rules)
     -- loop-less
-    (λ c. let on : tie.In-loop-at invariant-loop-at decreases-loop-at = search in omega (arith, on.loop-at-test.taken))
+    (λ c. let on : tie.In-loop-at invariant-loop-at decreases-loop-at = search in omega (arith, on.loop-at-test.true))
     -- loop-again
     (λ c.
     let r : tie.After-remember invariant-loop-at decreases-loop-at = search in
     let e : tie.After-end_at-end invariant-loop-at decreases-loop-at = search in
     let on : tie.In-loop-at invariant-loop-at decreases-loop-at = search in
     let turn : tie.At-loop-at invariant-loop-at decreases-loop-at = search in
-    let i = turn.loop-at.inv in
+    let i = turn.loop-at.invariant in
     let is = r.remember.ensures in
     record {
       right = rw is (stays_if i.right _ _ e.end_at-end.ensures);
-      first = λ n. rw is (noted_other _ _ _ n ∙ i.first (λ z. absurd (omega (arith, on.loop-at-test.taken))));
+      first = λ n. rw is (noted_other _ _ _ n ∙ i.first (λ z. absurd (omega (arith, on.loop-at-test.true))));
       long = rw is (length_noted _ _ _ ∙ i.long);
       inside = omega (arith, i.inside);
     })
     -- same-length
-    (λ c. let turn : tie.At-loop-at invariant-loop-at decreases-loop-at = search in turn.loop-at.inv.long)
+    (λ c. let turn : tie.At-loop-at invariant-loop-at decreases-loop-at = search in turn.loop-at.invariant.long)
     -- returns
-    (λ c. let turn : tie.At-loop-at invariant-loop-at decreases-loop-at = search in turn.loop-at.inv.right))
+    (λ c. let turn : tie.At-loop-at invariant-loop-at decreases-loop-at = search in turn.loop-at.invariant.right))

@@ -71,8 +71,8 @@ module _ (t : Due) where
 pair : (c : tie.In_default invariant-loop-due decreases-loop-due) → Goes c.before.before 1 (due c.before.before + 1)
 pair c =
     let t : Due = search in
-    let r = c.in-0.rest in
-    turn_rest (l t).loop-due.inv t.loop-due-test.taken r.0.0.0.0.0.1 r.0.0.0.0.1 r.0.0.0.1
+    let r = c.match.rest in
+    turn_rest (l t).loop-due.invariant t.loop-due-test.true r.0.0.0.0.0.1 r.0.0.0.0.1 r.0.0.0.1
     r.0.0.1 (λ e. r.0.1 (inl e)) (λ e. r.0.1 (inr e)) r.1 _ (omega arith)
 
 pub scan_end_spec : {M : Type 1} → statement M
@@ -86,47 +86,47 @@ scan_end_spec =
     -- shared-slice-read-op
     (λ c. let t : Due = search in byte_inside (l t).loop-due.invariant t.loop-due-test.true)
     -- SKIP: add-at, sub-due, loop-less, loop-again
-    (λ c. let t : Due = search in let w = (skip t c.in-0.keys1).inside in omega arith)
-    (λ c. let t : Due = search in let w = (skip t c.in-0.keys1).inside in omega arith)
-    (λ c. let t : Due = search in let w = (skip t c.in-0.keys1).inside in omega arith)
-    (λ c. let t : Due = search in (skip t c.in-0.keys1).goes_on)
+    (λ c. let t : Due = search in let w = (skip t c.in-0.is).inside in omega arith)
+    (λ c. let t : Due = search in let w = (skip t c.in-0.is).inside in omega arith)
+    (λ c. let t : Due = search in let w = (skip t c.in-0.is).inside in omega arith)
+    (λ c. let t : Due = search in (skip t c.in-0.is).goes_on)
     -- assign: add-at, loop-less, loop-again
-    (λ c. let t : Due = search in let w = (assign t c.in-0.keys2).inside in omega arith)
-    (λ c. let t : Due = search in let w = (assign t c.in-0.keys2).inside in omega arith)
-    (λ c. let t : Due = search in (assign t c.in-0.keys2).goes_on)
+    (λ c. let t : Due = search in let w = (assign t c.in-1.is).inside in omega arith)
+    (λ c. let t : Due = search in let w = (assign t c.in-1.is).inside in omega arith)
+    (λ c. let t : Due = search in (assign t c.in-1.is).goes_on)
     -- IF: add-at, add-due, loop-less, loop-again
-    (λ c. let t : Due = search in let w = (choice t c.in-0.keys3).inside in omega arith)
-    (λ c. let t : Due = search in let w = (choice t c.in-0.keys3).inside in omega arith)
-    (λ c. let t : Due = search in let w = (choice t c.in-0.keys3).inside in omega arith)
-    (λ c. let t : Due = search in (choice t c.in-0.keys3).goes_on)
+    (λ c. let t : Due = search in let w = (choice t c.in-3.is).inside in omega arith)
+    (λ c. let t : Due = search in let w = (choice t c.in-3.is).inside in omega arith)
+    (λ c. let t : Due = search in let w = (choice t c.in-3.is).inside in omega arith)
+    (λ c. let t : Due = search in (choice t c.in-3.is).goes_on)
     -- a constant: constant-width-requires, add-at, add-at, sub-due, loop-less, loop-again
     (λ c κs. search rules)
     (λ c.
     let t : Due = search in
-    let w = (constant t c.before.in-0.keys4).inside in
+    let w = (constant t c.before.in-16.is).inside in
     omega (arith, c.constant_width.ensures))
     (λ c.
     let t : Due = search in
-    let w = (constant t c.before.in-0.keys4).inside in
+    let w = (constant t c.before.in-16.is).inside in
     omega (arith, c.constant_width.ensures))
     (λ c.
     let t : Due = search in
-    let w = (constant t c.before.in-0.keys4).inside in
+    let w = (constant t c.before.in-16.is).inside in
     omega (arith, c.constant_width.ensures))
     (λ c.
     let t : Due = search in
-    let w = (constant t c.before.in-0.keys4).inside in
+    let w = (constant t c.before.in-16.is).inside in
     omega (arith, c.constant_width.ensures))
-    (λ c. let t : Due = search in rw c.constant_width.ensures (constant t c.before.in-0.keys4).goes_on)
+    (λ c. let t : Due = search in rw c.constant_width.ensures (constant t c.before.in-16.is).goes_on)
     -- a variable, Bc: add-at, sub-due, loop-less, loop-again
-    (λ c. let t : Due = search in let w = (leaf t c.in-0.keys5).inside in omega arith)
-    (λ c. let t : Due = search in let w = (leaf t c.in-0.keys5).inside in omega arith)
-    (λ c. let t : Due = search in let w = (leaf t c.in-0.keys5).inside in omega arith)
-    (λ c. let t : Due = search in (leaf t c.in-0.keys5).goes_on)
+    (λ c. let t : Due = search in let w = (leaf t c.in-17.is).inside in omega arith)
+    (λ c. let t : Due = search in let w = (leaf t c.in-17.is).inside in omega arith)
+    (λ c. let t : Due = search in let w = (leaf t c.in-17.is).inside in omega arith)
+    (λ c. let t : Due = search in (leaf t c.in-17.is).goes_on)
     -- Not: add-at, loop-less, loop-again
-    (λ c. let t : Due = search in let w = (negation t c.in-0.keys6).inside in omega arith)
-    (λ c. let t : Due = search in let w = (negation t c.in-0.keys6).inside in omega arith)
-    (λ c. let t : Due = search in (negation t c.in-0.keys6).goes_on)
+    (λ c. let t : Due = search in let w = (negation t c.in-33.is).inside in omega arith)
+    (λ c. let t : Due = search in let w = (negation t c.in-33.is).inside in omega arith)
+    (λ c. let t : Due = search in (negation t c.in-33.is).goes_on)
     -- two parts: add-at, add-due, loop-less, loop-again
     (λ c. let w = (pair c).inside in omega arith)
     (λ c. let w = (pair c).inside in omega arith)

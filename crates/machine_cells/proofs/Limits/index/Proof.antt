@@ -7,11 +7,11 @@ use Rattle.machine_cells.specs.declared.Layout.{Layout}
 use Rattle.machine_cells.proofs.Limits.index.Statement.{statement}
 use Rattle.machine_cells.proofs.Limits.index.Tie as tie
 
-downward : tie.Need-returns-2
+downward : tie.Need-returns-in-Downward
 downward c =
-    let told : tie.After-enum-told2 = search in
+    let told : tie.In-Downward = search in
     let s : tie.Start = search in (
-      ap (λ (l : Layout). index_of l s.args.self.depth s.args.i) (sym told.enum-told2.given.1),
+      ap (λ (l : Layout). index_of l s.args.self.depth s.args.i) (sym told.in-Downward.is),
       omega arith,
     )
 

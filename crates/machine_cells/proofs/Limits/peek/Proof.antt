@@ -9,10 +9,10 @@ use Rattle.machine_cells.proofs.Limits.peek.Tie as tie
 
 peeked : tie.Need-returns
 peeked c =
-    let at : tie.After-index = search in
+    let at : tie.After-index-at = search in
     let s : tie.Start = search in
-    ◌∙◌ {b = get_or s.args.lent.now at.index.result (pos 0)} (search rules)
-    (ap (λ (i : ℕ). get_or s.args.lent.now i (pos 0)) at.index.ensures.0)
+    ◌∙◌ {b = get_or s.args.lent.now at.index-at.result (pos 0)} (search rules)
+    (ap (λ (i : ℕ). get_or s.args.lent.now i (pos 0)) at.index-at.ensures.0)
 
 pub peek_spec : {M : Type 1} → statement M
 peek_spec =

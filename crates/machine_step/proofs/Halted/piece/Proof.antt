@@ -27,7 +27,7 @@ told_end Short k mark s h = refl
 told_end Full k mark s h = refl
 told_end Astray k mark s h = refl
 
-paused : tie.Need-returns
+paused : tie.Need-returns-in-Spent
 unfolding tell
 paused c memory =
     let s : tie.Start = search in
@@ -38,7 +38,7 @@ paused c memory =
 abbrev others : List ℕ
 others = 0 ∷ 2 ∷ 3 ∷ 4 ∷ []
 
-ended : tie.Need-returns-2
+ended : tie.Need-returns-in_default
 ended c memory =
     let s : tie.Start = search in
     told_end s.args.self.end _ _ (machine_of s.args.self.machine memory)

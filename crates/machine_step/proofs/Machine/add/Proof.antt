@@ -14,29 +14,29 @@ use Rattle.machine_step.proofs.Machine.add.Tie as tie
 
 -- where the record is done
 abbrev here : (s : tie.Start) → List ℤ → let l = s.args.limits.layout in Place (Lent l) (Named l)
-here s store = place s.args.self s.requires.held s.args.limits store s.args.lent.now
+here s store = place s.args.self s.requires.held s.args.limits store s.args.lent-1.now
 
-short : tie.Need-returns
+short : tie.Need-returns-then-size-lt2
 short c store =
-    let test : tie.Then1 = search in
+    let test : tie.Then-size-lt2 = search in
     let s : tie.Start = search in
-    add_stops (here s store) c.stops.ensures test.if1.taken
+    add_stops (here s store) c.stops.ensures test.if-size-lt2.true
 
-pushed : tie.Need-returns-2
+pushed : tie.Need-returns
 pushed c store =
     let put : tie.After-poke = search in
     let sum : tie.After-add = search in
-    let y : tie.After-peek2 = search in
-    let x : tie.After-peek = search in
-    let test : tie.Else1 = search in
+    let y : tie.After-peek-top = search in
+    let x : tie.After-peek-second = search in
+    let test : tie.Else-size-lt2 = search in
     let s : tie.Start = search in
     let l = s.args.limits in
-    let lent = s.args.lent.now in
+    let lent = s.args.lent-1.now in
     add_pushed (here s store) c.moves.ensures
     (poked l store lent (s.args.self.size - 2) (to_z w32 (of_z w32 sum.add.result)) put.poke.ensures)
-    test.if1.left s.pre.marked
+    test.if-size-lt2.left s.pre.marked
     (summed (here s store) (read_back w32 sum.add.ok sum.add.ensures)
-    (peeked l store lent _ x.peek.ok x.peek.ensures) (peeked l store lent _ y.peek2.ok y.peek2.ensures))
+    (peeked l store lent _ x.peek-second.ok x.peek-second.ensures) (peeked l store lent _ y.peek-top.ok y.peek-top.ensures))
 
 pub add_spec : {M : Type 1} → statement M
 add_spec =

@@ -14,39 +14,39 @@ use Rattle.machine_step.proofs.Machine.compare.Tie as tie
 abbrev here : (s : tie.Start) → List ℤ → let l = s.args.limits.layout in Place (Lent l) (Named l)
 here s store = place s.args.self s.requires.held s.args.limits store s.args.lent.now
 
-short : tie.Need-returns
+short : tie.Need-returns-then-size-lt2
 short c store =
-    let test : tie.Then1 = search in
+    let test : tie.Then-size-lt2 = search in
     let s : tie.Start = search in
-    compare_stops (here s store) s.args.flag s.args.operand c.stops.ensures test.if1.taken
+    compare_stops (here s store) s.args.flag s.args.operand c.stops.ensures test.if-size-lt2.true
 
-lands : tie.Need-returns-2
+lands : tie.Need-returns-then-less-flag
 lands c store =
-    let taken : tie.Then2 = search in
+    let taken : tie.Then-less-flag = search in
     let less : tie.After-less = search in
-    let y : tie.After-peek2 = search in
-    let x : tie.After-peek = search in
-    let test : tie.Else1 = search in
+    let y : tie.After-peek-top = search in
+    let x : tie.After-peek-second = search in
+    let test : tie.Else-size-lt2 = search in
     let s : tie.Start = search in
     let l = s.args.limits in
     let lent = s.args.lent.now in
-    compare_landed (here s store) s.args.flag c.jumps.ensures (to_z-of_z s.fits.operand) test.if1.left
-    (compared (here s store) less.less.ensures (peeked l store lent _ x.peek.ok x.peek.ensures)
-    (peeked l store lent _ y.peek2.ok y.peek2.ensures) (same_flag _ _ taken.if2.taken))
+    compare_landed (here s store) s.args.flag c.jumps.ensures (to_z-of_z s.ranges.operand) test.if-size-lt2.false
+    (compared (here s store) less.less.ensures (peeked l store lent _ x.peek-second.ok x.peek-second.ensures)
+    (peeked l store lent _ y.peek-top.ok y.peek-top.ensures) (same_flag _ _ taken.if-less-flag.true))
 
-passed : tie.Need-returns-3
+passed : tie.Need-returns
 passed c store =
-    let off : tie.Else2 = search in
+    let off : tie.Else-less-flag = search in
     let less : tie.After-less = search in
-    let y : tie.After-peek2 = search in
-    let x : tie.After-peek = search in
-    let test : tie.Else1 = search in
+    let y : tie.After-peek-top = search in
+    let x : tie.After-peek-second = search in
+    let test : tie.Else-size-lt2 = search in
     let s : tie.Start = search in
     let l = s.args.limits in
     let lent = s.args.lent.now in
-    compare_passes (here s store) s.args.flag s.args.operand c.moves.ensures test.if1.left
-    (compared (here s store) less.less.ensures (peeked l store lent _ x.peek.ok x.peek.ensures)
-    (peeked l store lent _ y.peek2.ok y.peek2.ensures) (other_flag _ _ off.if2.left))
+    compare_passes (here s store) s.args.flag s.args.operand c.moves.ensures test.if-size-lt2.false
+    (compared (here s store) less.less.ensures (peeked l store lent _ x.peek-second.type-inv x.peek-second.ensures)
+    (peeked l store lent _ y.peek-top.ok y.peek-top.ensures) (other_flag _ _ off.if-less-flag.left))
 
 pub compare_spec : {M : Type 1} → statement M
 compare_spec =

@@ -18,16 +18,16 @@ aimed j =
     let s : tie.Start = search in
     let at : ℤ → Target = λ z. target s.args.self.position z s.args.last in
     let went : j.jump.result ≡ at (to_z w32 (of_z w32 s.args.operand)) = j.jump.ensures in
-    went ∙ ap at (to_z-of_z s.fits.operand)
+    went ∙ ap at (to_z-of_z s.ranges.operand)
 
-inside : tie.Need-returns
+inside : tie.Need-returns-in-To
 inside c =
-    let to : tie.After-position = search in
+    let to : tie.In-To = search in
     let j : tie.After-jump = search in
     let s : tie.Start = search in
-    c.moves.ensures ∙ ap (landed s.args.self s.args.size) (sym to.position.given.1 ∙ aimed j)
+    c.moves.ensures ∙ ap (landed s.args.self s.args.size) (sym to.in-To.is ∙ aimed j)
 
-astray : tie.Need-returns-2
+astray : tie.Need-returns-in-Astray
 astray c =
     let j : tie.After-jump = search in
     let s : tie.Start = search in

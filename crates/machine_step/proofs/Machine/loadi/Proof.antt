@@ -12,32 +12,32 @@ use Rattle.machine_step.proofs.Machine.loadi.Tie as tie
 
 -- where the record is done
 abbrev here : (s : tie.Start) → List ℤ → let l = s.args.limits.layout in Place (Lent l) (Named l)
-here s store = place s.args.self s.requires.held s.args.limits store s.args.lent.now
+here s store = place s.args.self s.requires.held s.args.limits store s.args.lent-1.now
 
-below : tie.Need-returns
+below : tie.Need-returns-then-size-self
 below c store =
     let put : tie.After-poke = search in
-    let test : tie.Then1 = search in
+    let test : tie.Then-size-self = search in
     let s : tie.Start = search in
-    loadi_pushed (here s store) c.moves.ensures (omega (arith, test.if1.taken))
-    (poked s.args.limits store s.args.lent.now s.args.self.size _ put.poke.ensures)
-    (to_z-of_z s.fits.z) (omega (arith, test.if1.taken, s.pre.marked))
+    loadi_pushed (here s store) c.moves.ensures (omega (arith, test.if-size-self.true))
+    (poked s.args.limits store s.args.lent-1.now s.args.self.size _ put.poke.ensures)
+    (to_z-of_z s.fits.z) (omega (arith, test.if-size-self.true, s.pre.marked))
 
-full : tie.Need-returns-2
+full : tie.Need-returns-then-limits-size
 full c store =
-    let test : tie.Then2 = search in
+    let test : tie.Then-limits-size = search in
     let s : tie.Start = search in
-    loadi_full (here s store) s.args.z c.stops.ensures test.if2.taken
+    loadi_full (here s store) s.args.z c.stops.ensures test.if-limits-size.true
 
-raised : tie.Need-returns-3
+raised : tie.Need-returns
 raised c store =
-    let put : tie.After-poke2 = search in
-    let room : tie.Else2 = search in
-    let test : tie.Else1 = search in
+    let put : tie.After-poke-2 = search in
+    let room : tie.Else-limits-size = search in
+    let test : tie.Else-size-self = search in
     let s : tie.Start = search in
-    loadi_pushed (here s store) c.moves2.ensures (omega (arith, test.if1.left))
-    (poked s.args.limits store s.args.lent.now s.args.self.size _ put.poke2.ensures)
-    (to_z-of_z s.fits.z) room.if2.left
+    loadi_pushed (here s store) c.moves-2.ensures (omega (arith, test.if-size-self.left))
+    (poked s.args.limits store s.args.lent-1.now s.args.self.size _ put.poke-2.ensures)
+    (to_z-of_z s.fits.z) room.if-limits-size.left
 
 pub loadi_spec : {M : Type 1} → statement M
 loadi_spec =

@@ -28,7 +28,7 @@ below_256 n small u e = omega (arith, address_at_most n u e)
 
 -- ---- Where the byte has been read
 
-module _ (b : tie.After-byte-at) where
+module _ (b : tie.After-byte_at) where
   abbrev start : tie.Start
   start = b.before.before
 
@@ -36,14 +36,14 @@ module _ (b : tie.After-byte-at) where
   code = start.args.code.now
 
   abbrev memory : List ℤ
-  memory = start.args.memory.now
+  memory = start.args.memory-1.now
 
   abbrev position : ℕ
   position = start.args.self.position
 
   -- where the record is done
   abbrev here : Place (List ℤ) Address
-  here = place start.args.self start.pre.0.held (downward start.args.depth start.args.last) [] memory
+  here = place start.args.self start.requires.0.held (downward start.args.depth start.args.last) [] memory
 
   -- the operand's lowest byte
   abbrev low : ℕ
@@ -66,15 +66,15 @@ module _ (b : tie.After-byte-at) where
   read_as k e = ap (operation 0x50) (sym b.byte_at.ensures ∙ e)
 
   -- the record due
-  now_due : let p = start.pre.1 in Due (machine_kind p.n) code p.records position
+  now_due : let p = start.requires.1 in Due (machine_kind p.n) code p.records position
   now_due =
-      let p = start.pre.1 in
+      let p = start.requires.1 in
       record_due (machine_kind p.n) code p.records start.args.last position p.given
-      start.pre.0.placed
+      start.requires.0.placed
 
   -- the address that it names is a cell of the memory
-  in_memory : (machine_kind start.pre.1.n).is_name low ≡ true → start.args.depth + low < length memory
-  in_memory e = omega (arith, address_at_most start.pre.1.n low e, start.pre.1.cells_are)
+  in_memory : (machine_kind start.requires.1.n).is_name low ≡ true → start.args.depth + low < length memory
+  in_memory e = omega (arith, address_at_most start.requires.1.n low e, start.requires.1.cells_are)
 
   load_in_memory : b.byte_at.result ≡ 0x51 → start.args.depth + low < length memory
   unfolding operation
@@ -94,100 +94,100 @@ module _ (b : tie.After-byte-at) where
 
 -- ---- What LOAD and STORE require
 
-load_requires : tie.Need-value-at-requires
+load_requires : tie.Need-value_at-z-requires
 load_requires c κs =
-    let arm : tie.At-match-keys2 = search in
-    let b : tie.After-byte-at = search in
-    rw c.name_at.ensures (load_in_memory b arm.match.keys2)
+    let arm : tie.In-81 = search in
+    let b : tie.After-byte_at = search in
+    rw c.name_at.ensures (load_in_memory b arm.in-81.is)
 
-store_requires : tie.Need-store-at-requires
+store_requires : tie.Need-store_at-requires
 store_requires c κs =
-    let arm : tie.At-match-keys4 = search in
-    let b : tie.After-byte-at = search in
-    (((start b).pre.0, refl), rw c.name-at2.ensures (store_in_memory b arm.match.keys4))
+    let arm : tie.In-83 = search in
+    let b : tie.After-byte_at = search in
+    (((start b).requires.0, refl), rw c.name_at-in-83.ensures (store_in_memory b arm.in-83.is))
 
 -- ---- What the step does
 
-loadi : tie.Need-returns
+loadi : tie.Need-returns-in-80
 unfolding operation
 loadi c n r long there =
     let made : tie.After-loadi = search in
-    let z : tie.After-operand-at = search in
-    let arm : tie.At-match-keys1 = search in
-    let b : tie.After-byte-at = search in
+    let z : tie.After-operand_at = search in
+    let arm : tie.In-80 = search in
+    let b : tie.After-byte_at = search in
     as_due b
     (ap LOADI (read_back w32 z.Operand-at.ok z.Operand-at.ensures)
-    ∙ sym (is_loadi (machine_kind n) (code b) (position b) r there (read_as b 0x50 arm.match.keys1)))
+    ∙ sym (is_loadi (machine_kind n) (code b) (position b) r there (read_as b 0x50 arm.in-80.is)))
     (made.loadi.ensures [])
 
-load : tie.Need-returns-2
+load : tie.Need-returns-in-81
 unfolding operation
 load c n r long there =
-    let made : tie.After-loadi2 = search in
-    let z : tie.After-value-at = search in
-    let u : tie.After-name-at = search in
-    let arm : tie.At-match-keys2 = search in
-    let b : tie.After-byte-at = search in
+    let made : tie.After-loadi-in-81 = search in
+    let z : tie.After-value_at-z = search in
+    let u : tie.After-name_at = search in
+    let arm : tie.In-81 = search in
+    let b : tie.After-byte_at = search in
     as_due b
     (ap (λ (u : ℕ). LOAD (address u)) u.name_at.ensures
     ∙ sym (is_load (machine_kind n) (code b) (position b) r there (below_256 n (at_most_64 b n long))
-    (read_as b 0x51 arm.match.keys2)).1)
-    (load_pushed (here b) (address u.name_at.result) (read_back w32 z.value_at.ok z.value_at.ensures)
-    (made.loadi2.ensures []))
+    (read_as b 0x51 arm.in-81.is)).1)
+    (load_pushed (here b) (address u.name_at.result) (read_back w32 z.value_at-z.ok z.value_at-z.ensures)
+    (made.loadi-in-81.ensures []))
 
-add : tie.Need-returns-3
+add : tie.Need-returns-in-82
 unfolding operation
 add c n r long there =
     let made : tie.After-add = search in
-    let arm : tie.At-match-keys3 = search in
-    let b : tie.After-byte-at = search in
+    let arm : tie.In-82 = search in
+    let b : tie.After-byte_at = search in
     as_due b
-    (sym (is_add (machine_kind n) (code b) (position b) r there (read_as b 0x52 arm.match.keys3)))
+    (sym (is_add (machine_kind n) (code b) (position b) r there (read_as b 0x52 arm.in-82.is)))
     (made.add.ensures [])
 
-store : tie.Need-returns-4
+store : tie.Need-returns-in-83
 unfolding operation
 store c n r long there =
-    let made : tie.After-store-at = search in
-    let u : tie.After-name-at2 = search in
-    let arm : tie.At-match-keys4 = search in
-    let b : tie.After-byte-at = search in
+    let made : tie.After-store_at = search in
+    let u : tie.After-name_at-in-83 = search in
+    let arm : tie.In-83 = search in
+    let b : tie.After-byte_at = search in
     as_due b
-    (ap (λ (u : ℕ). STORE (address u)) u.name-at2.ensures
+    (ap (λ (u : ℕ). STORE (address u)) u.name_at-in-83.ensures
     ∙ sym (is_store (machine_kind n) (code b) (position b) r there (below_256 n (at_most_64 b n long))
-    (read_as b 0x53 arm.match.keys4)).1)
+    (read_as b 0x53 arm.in-83.is)).1)
     made.store_at.ensures
 
-jmp : tie.Need-returns-5
+jmp : tie.Need-returns-in-84
 unfolding operation
 jmp c n r long there =
-    let z : tie.After-operand-at2 = search in
-    let arm : tie.At-match-keys5 = search in
-    let b : tie.After-byte-at = search in
+    let z : tie.After-operand_at-in-84 = search in
+    let arm : tie.In-84 = search in
+    let b : tie.After-byte_at = search in
     as_due b
-    (sym (is_jmp (machine_kind n) (code b) (position b) r there (read_as b 0x54 arm.match.keys5)))
-    (jmp_landed (here b) c.jumps.ensures (read_back w32 z.operand-at2.ok z.operand-at2.ensures))
+    (sym (is_jmp (machine_kind n) (code b) (position b) r there (read_as b 0x54 arm.in-84.is)))
+    (jmp_landed (here b) c.jumps.ensures (read_back w32 z.operand_at-in-84.ok z.operand_at-in-84.ensures))
 
-jmpless : tie.Need-returns-6
+jmpless : tie.Need-returns-in-85
 unfolding operation
 jmpless c n r long there =
-    let z : tie.After-operand-at3 = search in
-    let arm : tie.At-match-keys6 = search in
-    let b : tie.After-byte-at = search in
+    let z : tie.After-operand_at-in-85 = search in
+    let arm : tie.In-85 = search in
+    let b : tie.After-byte_at = search in
     as_due b
-    (ap (comparing true) (read_back w32 z.operand-at3.ok z.operand-at3.ensures)
-    ∙ sym (is_jmpless (machine_kind n) (code b) (position b) r there (read_as b 0x55 arm.match.keys6)))
+    (ap (comparing true) (read_back w32 z.operand_at-in-85.ok z.operand_at-in-85.ensures)
+    ∙ sym (is_jmpless (machine_kind n) (code b) (position b) r there (read_as b 0x55 arm.in-85.is)))
     (c.compare.ensures [])
 
-jmpge : tie.Need-returns-7
+jmpge : tie.Need-returns-in_default
 jmpge c n r long there =
-    let z : tie.After-operand-at4 = search in
-    let arm : tie.At-match-rest = search in
-    let b : tie.After-byte-at = search in
+    let z : tie.After-operand_at-in_default = search in
+    let arm : tie.In_default = search in
+    let b : tie.After-byte_at = search in
     let no = arm.match.rest in
     let is = b.byte_at.ensures in
     as_due b
-    (ap (comparing false) (read_back w32 z.operand-at4.ok z.operand-at4.ensures)
+    (ap (comparing false) (read_back w32 z.operand_at-in_default.ok z.operand_at-in_default.ensures)
     ∙ sym
     (is_jmpge (machine_kind n) (code b) (position b) r there
     (λ e. no.0.0.0.0.0.1 (is ∙ e))
@@ -196,7 +196,7 @@ jmpge c n r long there =
     (λ e. no.0.0.1 (is ∙ e))
     (λ e. no.0.1 (is ∙ e))
     (λ e. no.1 (is ∙ e))))
-    (c.compare2.ensures [])
+    (c.compare-in_default.ensures [])
 
 pub step_spec : {M : Type 1} → statement M
 step_spec =

@@ -29,7 +29,7 @@ below_256 u e = omega (arith, variable_at_most u e)
 
 -- ---- Where the byte has been read
 
-module _ (b : tie.After-byte-at) where
+module _ (b : tie.After-byte_at) where
   abbrev start : tie.Start
   start = b.before.before
 
@@ -37,17 +37,17 @@ module _ (b : tie.After-byte-at) where
   code = start.args.code.now
 
   abbrev variables : List ℤ
-  variables = start.args.store.now
+  variables = start.args.store-1.now
 
   abbrev stack : List ℤ
-  stack = start.args.stack.now
+  stack = start.args.stack-1.now
 
   abbrev position : ℕ
   position = start.args.self.position
 
   -- where the record is done
   abbrev here : Place Assembly Variable
-  here = place start.args.self start.pre.0.held (upward (length stack) start.args.last) variables stack
+  here = place start.args.self start.requires.0.held (upward (length stack) start.args.last) variables stack
 
   -- the operand's lowest byte
   abbrev low : ℕ
@@ -66,10 +66,10 @@ module _ (b : tie.After-byte-at) where
   read_as k e = ap (operation 0x40) (sym b.byte_at.ensures ∙ e)
 
   -- the record due
-  now_due : Due assembly_kind code start.pre.1.records position
+  now_due : Due assembly_kind code start.requires.1.records position
   now_due =
-      let p = start.pre.1 in
-      record_due assembly_kind code p.records start.args.last position p.given start.pre.0.placed
+      let p = start.requires.1 in
+      record_due assembly_kind code p.records start.args.last position p.given start.requires.0.placed
 
   -- the variable that it names is a cell of the store
   in_store : assembly_kind.is_name low ≡ true → low < length variables
@@ -87,100 +87,100 @@ module _ (b : tie.After-byte-at) where
 
 -- ---- What LOAD and STORE require
 
-load_requires : tie.Need-value-in-requires
+load_requires : tie.Need-value_in-z-requires
 load_requires c κs =
-    let arm : tie.At-match-keys2 = search in
-    let b : tie.After-byte-at = search in
-    rw c.name_at.ensures (load_in_store b arm.match.keys2)
+    let arm : tie.In-65 = search in
+    let b : tie.After-byte_at = search in
+    rw c.name_at.ensures (load_in_store b arm.in-65.is)
 
-store_requires : tie.Need-store-in-requires
+store_requires : tie.Need-store_in-requires
 store_requires c κs =
-    let arm : tie.At-match-keys4 = search in
-    let b : tie.After-byte-at = search in
-    (((start b).pre.0, refl), (refl, rw c.name-at2.ensures (store_in_store b arm.match.keys4)))
+    let arm : tie.In-67 = search in
+    let b : tie.After-byte_at = search in
+    (((start b).requires.0, refl), (refl, rw c.name_at-in-67.ensures (store_in_store b arm.in-67.is)))
 
 -- ---- What the step does
 
-loadi : tie.Need-returns
+loadi : tie.Need-returns-in-64
 unfolding operation
 loadi c r there =
     let made : tie.After-loadi = search in
-    let z : tie.After-operand-at = search in
-    let arm : tie.At-match-keys1 = search in
-    let b : tie.After-byte-at = search in
+    let z : tie.After-operand_at = search in
+    let arm : tie.In-64 = search in
+    let b : tie.After-byte_at = search in
     as_due b
     (ap LOADI (read_back w32 z.Operand-at.ok z.Operand-at.ensures)
-    ∙ sym (is_loadi assembly_kind (code b) (position b) r there (read_as b 0x40 arm.match.keys1)))
+    ∙ sym (is_loadi assembly_kind (code b) (position b) r there (read_as b 0x40 arm.in-64.is)))
     (made.loadi.ensures (variables b))
 
-load : tie.Need-returns-2
+load : tie.Need-returns-in-65
 unfolding operation
 load c r there =
-    let made : tie.After-loadi2 = search in
-    let z : tie.After-value-in = search in
-    let u : tie.After-name-at = search in
-    let arm : tie.At-match-keys2 = search in
-    let b : tie.After-byte-at = search in
+    let made : tie.After-loadi-in-65 = search in
+    let z : tie.After-value_in-z = search in
+    let u : tie.After-name_at = search in
+    let arm : tie.In-65 = search in
+    let b : tie.After-byte_at = search in
     as_due b
     (ap (λ (u : ℕ). LOAD (variable u)) u.name_at.ensures
     ∙ sym (is_load assembly_kind (code b) (position b) r there below_256
-    (read_as b 0x41 arm.match.keys2)).1)
-    (load_pushed (here b) (variable u.name_at.result) (read_back w32 z.value_in.ok z.value_in.ensures)
-    (made.loadi2.ensures (variables b)))
+    (read_as b 0x41 arm.in-65.is)).1)
+    (load_pushed (here b) (variable u.name_at.result) (read_back w32 z.value_in-z.ok z.value_in-z.ensures)
+    (made.loadi-in-65.ensures (variables b)))
 
-add : tie.Need-returns-3
+add : tie.Need-returns-in-66
 unfolding operation
 add c r there =
     let made : tie.After-add = search in
-    let arm : tie.At-match-keys3 = search in
-    let b : tie.After-byte-at = search in
+    let arm : tie.In-66 = search in
+    let b : tie.After-byte_at = search in
     as_due b
-    (sym (is_add assembly_kind (code b) (position b) r there (read_as b 0x42 arm.match.keys3)))
+    (sym (is_add assembly_kind (code b) (position b) r there (read_as b 0x42 arm.in-66.is)))
     (made.add.ensures (variables b))
 
-store : tie.Need-returns-4
+store : tie.Need-returns-in-67
 unfolding operation
 store c r there =
-    let made : tie.After-store-in = search in
-    let u : tie.After-name-at2 = search in
-    let arm : tie.At-match-keys4 = search in
-    let b : tie.After-byte-at = search in
+    let made : tie.After-store_in = search in
+    let u : tie.After-name_at-in-67 = search in
+    let arm : tie.In-67 = search in
+    let b : tie.After-byte_at = search in
     as_due b
-    (ap (λ (u : ℕ). STORE (variable u)) u.name-at2.ensures
+    (ap (λ (u : ℕ). STORE (variable u)) u.name_at-in-67.ensures
     ∙ sym (is_store assembly_kind (code b) (position b) r there below_256
-    (read_as b 0x43 arm.match.keys4)).1)
+    (read_as b 0x43 arm.in-67.is)).1)
     made.store_in.ensures
 
-jmp : tie.Need-returns-5
+jmp : tie.Need-returns-in-68
 unfolding operation
 jmp c r there =
-    let z : tie.After-operand-at2 = search in
-    let arm : tie.At-match-keys5 = search in
-    let b : tie.After-byte-at = search in
+    let z : tie.After-operand_at-in-68 = search in
+    let arm : tie.In-68 = search in
+    let b : tie.After-byte_at = search in
     as_due b
-    (sym (is_jmp assembly_kind (code b) (position b) r there (read_as b 0x44 arm.match.keys5)))
-    (jmp_landed (here b) c.jumps.ensures (read_back w32 z.operand-at2.ok z.operand-at2.ensures))
+    (sym (is_jmp assembly_kind (code b) (position b) r there (read_as b 0x44 arm.in-68.is)))
+    (jmp_landed (here b) c.jumps.ensures (read_back w32 z.operand_at-in-68.ok z.operand_at-in-68.ensures))
 
-jmpless : tie.Need-returns-6
+jmpless : tie.Need-returns-in-69
 unfolding operation
 jmpless c r there =
-    let z : tie.After-operand-at3 = search in
-    let arm : tie.At-match-keys6 = search in
-    let b : tie.After-byte-at = search in
+    let z : tie.After-operand_at-in-69 = search in
+    let arm : tie.In-69 = search in
+    let b : tie.After-byte_at = search in
     as_due b
-    (ap (comparing true) (read_back w32 z.operand-at3.ok z.operand-at3.ensures)
-    ∙ sym (is_jmpless assembly_kind (code b) (position b) r there (read_as b 0x45 arm.match.keys6)))
+    (ap (comparing true) (read_back w32 z.operand_at-in-69.ok z.operand_at-in-69.ensures)
+    ∙ sym (is_jmpless assembly_kind (code b) (position b) r there (read_as b 0x45 arm.in-69.is)))
     (c.compare.ensures (variables b))
 
-jmpge : tie.Need-returns-7
+jmpge : tie.Need-returns-in_default
 jmpge c r there =
-    let z : tie.After-operand-at4 = search in
-    let arm : tie.At-match-rest = search in
-    let b : tie.After-byte-at = search in
+    let z : tie.After-operand_at-in_default = search in
+    let arm : tie.In_default = search in
+    let b : tie.After-byte_at = search in
     let no = arm.match.rest in
     let is = b.byte_at.ensures in
     as_due b
-    (ap (comparing false) (read_back w32 z.operand-at4.ok z.operand-at4.ensures)
+    (ap (comparing false) (read_back w32 z.operand_at-in_default.ok z.operand_at-in_default.ensures)
     ∙ sym
     (is_jmpge assembly_kind (code b) (position b) r there
     (λ e. no.0.0.0.0.0.1 (is ∙ e))
@@ -189,7 +189,7 @@ jmpge c r there =
     (λ e. no.0.0.1 (is ∙ e))
     (λ e. no.0.1 (is ∙ e))
     (λ e. no.1 (is ∙ e))))
-    (c.compare2.ensures (variables b))
+    (c.compare-in_default.ensures (variables b))
 
 pub step_assembly_spec : {M : Type 1} → statement M
 step_assembly_spec =

@@ -20,26 +20,26 @@ use Rattle.machine_step.proofs.Machine.store_at.Tie as tie
 abbrev here : tie.Start → Place (List ℤ) Address
 here s =
     let x = s.args.limits in
-    place s.args.self s.requires.0.0.held (downward x.depth x.last) [] s.args.memory.now
+    place s.args.self s.requires.0.0.held (downward x.depth x.last) [] s.args.memory-1.now
 
-short : tie.Need-returns
+short : tie.Need-returns-then-size-lt1
 short c =
-    let test : tie.Then1 = search in
+    let test : tie.Then-size-lt1 = search in
     let s : tie.Start = search in
-    store_stops (here s) s.args.address c.stops.ensures test.if1.taken
+    store_stops (here s) s.args.address c.stops.ensures test.if-size-lt1.true
 
-saved : tie.Need-returns-2
+saved : tie.Need-returns
 saved c =
-    let put : tie.After-save-at = search in
-    let read : tie.After-peek = search in
-    let test : tie.Else1 = search in
+    let put : tie.After-save_at = search in
+    let read : tie.After-peek-z = search in
+    let test : tie.Else-size-lt1 = search in
     let s : tie.Start = search in
     let x = s.args.limits in
-    store_saved (here s) s.args.address c.moves.ensures put.save-at.ensures
-    (read_back w32 read.peek.ok read.peek.ensures
-    ∙ ap (λ (l : Layout). get_or s.args.memory.now (index_of l x.depth (s.args.self.size - 1)) (pos 0))
+    store_saved (here s) s.args.address c.moves.ensures put.save_at.ensures
+    (read_back w32 read.peek-z.ok read.peek-z.ensures
+    ∙ ap (λ (l : Layout). get_or s.args.memory-1.now (index_of l x.depth (s.args.self.size - 1)) (pos 0))
     s.pre.0.1)
-    test.if1.left
+    test.if-size-lt1.left
 
 pub store_at_spec : {M : Type 1} → statement M
 store_at_spec =

@@ -22,27 +22,27 @@ abbrev here : tie.Start → Place Assembly Variable
 here s =
     let a = s.args in
     let stack = a.stack.now in
-    place a.self s.requires.0.0.held (upward (length stack) a.limits.last) a.store.now stack
+    place a.self s.requires.0.0.held (upward (length stack) a.limits.last) a.store-1.now stack
 
-short : tie.Need-returns
+short : tie.Need-returns-then-size-lt1
 short c =
-    let test : tie.Then1 = search in
+    let test : tie.Then-size-lt1 = search in
     let s : tie.Start = search in
-    store_stops (here s) s.args.variable c.stops.ensures test.if1.taken
+    store_stops (here s) s.args.variable c.stops.ensures test.if-size-lt1.true
 
-saved : tie.Need-returns-2
+saved : tie.Need-returns
 saved c =
-    let put : tie.After-save-in = search in
-    let read : tie.After-peek = search in
-    let test : tie.Else1 = search in
+    let put : tie.After-save_in = search in
+    let read : tie.After-peek-z = search in
+    let test : tie.Else-size-lt1 = search in
     let s : tie.Start = search in
     let stack = s.args.stack.now in
     store_saved (here s) s.args.variable c.moves.ensures
-    (ap (λ (store : List ℤ). assembly_of store stack) put.save-in.ensures)
-    (read_back w32 read.peek.ok read.peek.ensures
+    (ap (λ (store : List ℤ). assembly_of store stack) put.save_in.ensures)
+    (read_back w32 read.peek-z.ok read.peek-z.ensures
     ∙ ap (λ (l : Layout). get_or stack (index_of l s.args.limits.depth (s.args.self.size - 1)) (pos 0))
     s.pre.0.1)
-    test.if1.left
+    test.if-size-lt1.left
 
 pub store_in_spec : {M : Type 1} → statement M
 store_in_spec =

@@ -7,9 +7,9 @@ pub is_name_spec : {M : Type 1} → statement M
 is_name_spec =
     tie.close
     (tie.spec
-    (λ c. simp (le-ltb _ _ c.if1.true))
-    (λ c. let off : tie.Else1 = search in simp (lt-ltb _ _ off.if1.left, lt-leb _ _ c.if2.true))
+    (λ c. simp (le-ltb _ _ c.if-bits-ge2147483648.true))
+    (λ c. let off : tie.Else-bits-ge2147483648 = search in simp (lt-ltb _ _ off.if-bits-ge2147483648.false, lt-leb _ _ c.if-bits-self.true))
     (λ c.
-    let off2 : tie.Else2 = search in
-    let off : tie.Else1 = search in
-    simp (lt-ltb _ _ off.if1.left, le-leb _ _ off2.if2.left)))
+    let off2 : tie.Else-bits-self = search in
+    let off : tie.Else-bits-ge2147483648 = search in
+    simp (lt-ltb _ _ off.if-bits-ge2147483648.false, le-leb _ _ off2.if-bits-self.false)))

@@ -15,46 +15,46 @@ use Rattle.record_test.proofs.Testing.{stopped, passed}
 use Rattle.record_test.proofs.Kind.mismatch.Statement.{statement}
 use Rattle.record_test.proofs.Kind.mismatch.Tie as tie
 
-abbrev invariant-loop : tie.invariant-loop
-invariant-loop self code count i₀ i =
+abbrev invariant-loop-i : tie.invariant-loop-i
+invariant-loop-i self code count i₀ i =
     (i ≤ count) × ((j : ℕ) → j < i → is_some (record_at (kind_of self) code j) ≡ true)
 
-abbrev decreases-loop : tie.decreases-loop
-decreases-loop self code count i₀ i = count - i
+abbrev decreases-loop-i : tie.decreases-loop-i
+decreases-loop-i self code count i₀ i = count - i
 
-stops : tie.Need-returns invariant-loop decreases-loop
+stops : tie.Need-returns-then-not-is_record invariant-loop-i decreases-loop-i
 stops c =
-    let z : tie.After-operand-at invariant-loop decreases-loop = search in
-    let on : tie.In-loop invariant-loop decreases-loop = search in
-    let turn : tie.At-loop invariant-loop decreases-loop = search in
-    let s : tie.Start invariant-loop decreases-loop = search in
+    let z : tie.After-operand_at invariant-loop-i decreases-loop-i = search in
+    let on : tie.In-loop-i invariant-loop-i decreases-loop-i = search in
+    let turn : tie.At-loop-i invariant-loop-i decreases-loop-i = search in
+    let s : tie.Start invariant-loop-i decreases-loop-i = search in
     let a = s.args in
-    let operand = read_back w32 z.Operand-at.ok z.Operand-at.ensures in
-    let no = not-true c.before.is-record.result c.if1.true in
-    stopped (kind_of a.self) a.code.now a.count turn.loop.i on.loop-test.taken turn.loop.inv.1
+    let operand = read_back w32 z.operand_at.type_inv z.operand_at.ensures in
+    let no = not-true c.before.is_record.result c.if-not-is_record.true in
+    stopped (kind_of a.self) a.code.now a.count turn.loop-i.i on.loop-i-test.true turn.loop-i.invariant.1
     (cc)
 
-again : tie.Need-loop-preserved invariant-loop decreases-loop
+again : tie.Need-loop-i-preserved invariant-loop-i decreases-loop-i
 again c =
-    let z : tie.After-operand-at invariant-loop decreases-loop = search in
-    let turn : tie.At-loop invariant-loop decreases-loop = search in
-    let operand = read_back w32 z.Operand-at.ok z.Operand-at.ensures in
-    let yes = not-false c.before.is-record.result c.if1.false in
-    (search rules, below_more _ _ turn.loop.inv.1 (cc))
+    let z : tie.After-operand_at invariant-loop-i decreases-loop-i = search in
+    let turn : tie.At-loop-i invariant-loop-i decreases-loop-i = search in
+    let operand = read_back w32 z.operand_at.type_inv z.operand_at.ensures in
+    let yes = not-false c.before.is_record.result c.if-not-is_record.false in
+    (search rules, below_more _ _ turn.loop-i.invariant.1 (cc))
 
-ends : tie.Need-returns-2 invariant-loop decreases-loop
+ends : tie.Need-returns invariant-loop-i decreases-loop-i
 ends c =
-    let turn : tie.At-loop invariant-loop decreases-loop = search in
-    let s : tie.Start invariant-loop decreases-loop = search in
+    let turn : tie.At-loop-i invariant-loop-i decreases-loop-i = search in
+    let s : tie.Start invariant-loop-i decreases-loop-i = search in
     let a = s.args in
-    passed (kind_of a.self) a.code.now a.count turn.loop.i (omega arith) turn.loop.inv.1
+    passed (kind_of a.self) a.code.now a.count turn.loop-i.i (omega arith) turn.loop-i.invariant.1
 
 pub mismatch_spec : {M : Type 1} → statement M
 mismatch_spec =
     tie.close
     (tie.spec
-    invariant-loop
-    decreases-loop
+    invariant-loop-i
+    decreases-loop-i
     (λ c. (search rules, λ j h. absurd (omega arith)))
     (λ c κs. search rules)
     (λ c κs. search rules)

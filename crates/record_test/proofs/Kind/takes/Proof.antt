@@ -9,46 +9,46 @@ use Rattle.record_test.proofs.ByNumbers.{load_tested, add_tested, store_tested, 
 use Rattle.record_test.proofs.Kind.takes.Statement.{statement}
 use Rattle.record_test.proofs.Kind.takes.Tie as tie
 
-loaded : tie.Need-returns
+loaded : tie.Need-returns-then-number-eq1
 loaded c =
-    let on : tie.Then1 = search in
+    let on : tie.Then-number-eq1 = search in
     let s : tie.Start = search in
     let a = s.args in
     cc (
-      to_z-of_z s.fits.operand,
-      name_bits a.self a.operand s.fits.operand,
-      load_tested (kind_of a.self) a.operand a.number on.if1.taken,
+      to_z-of_z s.ranges.operand,
+      name_bits a.self a.operand s.ranges.operand,
+      load_tested (kind_of a.self) a.operand a.number on.if-number-eq1.true,
     )
 
-added : tie.Need-returns-2
+added : tie.Need-returns-then-number-eq2
 added c =
-    let on : tie.Then2 = search in
+    let on : tie.Then-number-eq2 = search in
     let s : tie.Start = search in
     let a = s.args in
     cc (
-      to_z-of_z s.fits.operand,
-      zero_bits a.operand s.fits.operand,
-      add_tested (kind_of a.self) a.operand a.number on.if2.taken,
+      to_z-of_z s.ranges.operand,
+      zero_bits a.operand s.ranges.operand,
+      add_tested (kind_of a.self) a.operand a.number on.if-number-eq2.true,
     )
 
-stored : tie.Need-returns-3
+stored : tie.Need-returns-then-number-eq3
 stored c =
-    let on : tie.Then3 = search in
+    let on : tie.Then-number-eq3 = search in
     let s : tie.Start = search in
     let a = s.args in
     cc (
-      to_z-of_z s.fits.operand,
-      name_bits a.self a.operand s.fits.operand,
-      store_tested (kind_of a.self) a.operand a.number on.if3.taken,
+      to_z-of_z s.ranges.operand,
+      name_bits a.self a.operand s.ranges.operand,
+      store_tested (kind_of a.self) a.operand a.number on.if-number-eq3.true,
     )
 
-others : tie.Need-returns-4
+others : tie.Need-returns
 others c =
-    let off2 : tie.Else2 = search in
-    let off : tie.Else1 = search in
+    let off2 : tie.Else-number-eq2 = search in
+    let off : tie.Else-number-eq1 = search in
     let s : tie.Start = search in
     let a = s.args in
-    sym (rest_tested (kind_of a.self) a.operand a.number off.if1.left off2.if2.left c.if3.false)
+    sym (rest_tested (kind_of a.self) a.operand a.number off.if-number-eq1.false off2.if-number-eq2.false c.if-number-eq3.false)
 
 pub takes_spec : {M : Type 1} → statement M
 takes_spec =
