@@ -83,7 +83,13 @@ around_kept (suc zero) r i e = kept_at 2 around to_2 Any 1 e record {
 around_kept (suc (suc zero)) r i e = kept_at 2 around to_2 Any 2 e record {
   enough = omega arith;
   room = omega arith;
-  ways = λ (taken : Bool). elim taken [ true ↦ (0, refl, refl, tt) | false ↦ (3, refl, refl, tt) ];
+  ways = λ (taken : Bool).
+      elim taken as (λ (k : Bool).
+      (q : ℕ) × (successor {Name = Address} (length around) 2 (JMPGE (negsuc 2)) k ≡ To q)
+      × (to_2 q ≡ height_after {Name = Address} (JMPGE (negsuc 2)) 2) × Any q) [
+        true ↦ (0, refl, refl, tt)
+      | false ↦ (3, refl, refl, tt)
+      ];
 }
 around_kept (suc (suc (suc p))) r i e = past e
 

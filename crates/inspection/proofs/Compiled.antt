@@ -178,7 +178,9 @@ module _ (P : AssemblyCode) (D : ℕ) where
         room = omega arith;
         ways =
             λ (taken : Bool).
-            elim taken [
+            elim taken as (λ (k : Bool).
+            (y : ℕ) × (successor (length P) r (comparing true (pos i)) k ≡ To y)
+            × (h y ≡ height_after (comparing true (pos i)) (h r))) [
               | true ↦ (q + i, target_on i r q (length P) z b, omega arith)
               | false ↦ (suc r, refl, next r (JMPLESS (pos i)) e)
             ];
@@ -189,7 +191,9 @@ module _ (P : AssemblyCode) (D : ℕ) where
         room = omega arith;
         ways =
             λ (taken : Bool).
-            elim taken [
+            elim taken as (λ (k : Bool).
+            (y : ℕ) × (successor (length P) r (comparing false (pos i)) k ≡ To y)
+            × (h y ≡ height_after (comparing false (pos i)) (h r))) [
               | true ↦ (q + i, target_on i r q (length P) z b, omega arith)
               | false ↦ (suc r, refl, next r (JMPGE (pos i)) e)
             ];

@@ -6,4 +6,4 @@ use Rattle.show.specs.declared.Input.TheVariants.{Read, Failed}
 -- The bytes read are within a buffer of this length
 abbrev pub Within : Input → ℕ → Type 0
 Within (Read n) length = n ≤ length
-Within Failed length = Unit {0}
+Within (Failed error) length = Unit {0}

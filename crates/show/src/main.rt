@@ -6,55 +6,68 @@
 ghost use Rattle.std.specs.Prelude.{◌≤◌, length};
 ghost use Rattle.show.specs.Input.{Within};
 
-use libc::{STDIN_FILENO, STDOUT_FILENO};
+use std::io;
+use std::io::{Read, Write};
 
 // What standard input came to: so many bytes, at the start of the buffer.
-#[derive(Drop)]
 pub enum Input {
     Read(usize),
-    Failed,
+    Failed(io::Error),
 }
 
 // Reads once.
-fn read_once(buffer: &mut [u8]) -> Input
+fn read_once<R: Read>(from: &mut R, buffer: &mut [u8]) -> Input
     ensures { Within result (length buffer.new) }
 {
-    let got = libc::read(STDIN_FILENO, buffer);
-    if got < 0 {
-        return Input::Failed;
+    match from.read(buffer) {
+        Ok(got) => Input::Read(got),
+        Err(error) => Input::Failed(error),
     }
-    Input::Read(io::count(got, buffer))
 }
 
 // Reads until the input ends, or until the buffer is full.
-fn read_input(buffer: &mut [u8]) -> Input
+fn read_input<R: Read>(from: &mut R, buffer: &mut [u8]) -> Input
     ensures { Within result (length buffer.new) }
 {
     let mut done: usize = 0;
     while done < buffer.len() {
-        let Input::Read(more) = read_once(&mut buffer[done..]) else {
-            return Input::Failed;
-        };
-        if more == 0 {
-            return Input::Read(done);
+        match read_once(from, &mut buffer[done..]) {
+            Input::Failed(error) => return Input::Failed(error),
+            Input::Read(0) => return Input::Read(done),
+            Input::Read(more) => done += more,
         }
-        done += more;
     }
     Input::Read(done)
+}
+
+// The system's words for an error, without the number that std prints behind them.
+fn words(text: &str) -> &str {
+    match text.split_once(" (os error ") {
+        Some((words, _)) => words,
+        None => text,
+    }
+}
+
+// Prints on standard error what failed, and why.
+fn report(rt: &HostRuntime, what: &str, error: &io::Error) -> io::Result<()> {
+    let text = format!(in rt.alloc(); "{error}")?;
+    let why = words(&text);
+    eprintln!(rt; "show: {what}: {why}")
 }
 
 // One byte more than the longest text: where all of them are read, the text is too long, however long it is.
 const INPUT_BYTES: usize = text::LONGEST + 1;
 
-fn main() {
+fn main(rt: HostRuntime) -> io::Result<()> {
     let mut text = [0u8; INPUT_BYTES];
-    let Input::Read(length) = read_input(&mut text) else {
-        os::fail(b"show: cannot read standard input");
-        return;
+    let length = match read_input(&mut rt.reader(), &mut text) {
+        Input::Read(length) => length,
+        Input::Failed(error) => return report(&rt, "cannot read standard input", &error),
     };
     let mut out = print_render::output_buffer();
     let size = print_render::render(&text[..length], &mut out);
-    if !io::write_all(STDOUT_FILENO, &out[..size]) {
-        os::fail(b"show: cannot write to standard output");
+    match io::writer(&rt).write_all(&out[..size]) {
+        Ok(()) => Ok(()),
+        Err(error) => report(&rt, "cannot write to standard output", &error),
     }
 }

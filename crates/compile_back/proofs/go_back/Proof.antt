@@ -10,12 +10,12 @@ use Rattle.compile_back.proofs.Tests.{tests_refuse, passed}
 use Rattle.compile_back.proofs.go_back.Statement.{statement}
 use Rattle.compile_back.proofs.go_back.Tie as tie
 
-declines : tie.Need-returns
+declines : tie.Need-returns-in-Refused
 unfolding Calls.go_back
 declines c =
-    let r : tie.After-refusal = search in
+    let r : tie.In-Refused = search in
     let t : tie.After-test = search in
-    declined _ _ _ _ (tests_refuse _ _ _ t.test.ensures r.refusal.given.1)
+    declined _ _ _ _ (tests_refuse _ _ _ t.test.ensures r.in-Refused.is)
 
 pub go_back_spec : {M : Type 1} → statement M
 go_back_spec =
@@ -26,45 +26,45 @@ go_back_spec =
     (λ c. search rules)
     (λ c. search rules)
     (λ c κs.
-    let n : tie.After-n = search in
+    let n : tie.In-Gives = search in
     let t : tie.After-test = search in
-    let p = passed _ _ _ t.test.ensures n.n.given.1 in
+    let p = passed _ _ _ t.test.ensures n.in-Gives.is in
     (omega (arith, p.bytes), (p.entries, refl)))
     (λ c κs.
-    let n : tie.After-n = search in
+    let n : tie.In-Gives = search in
     let t : tie.After-test = search in
-    let p = passed _ _ _ t.test.ensures n.n.given.1 in
+    let p = passed _ _ _ t.test.ensures n.in-Gives.is in
     omega (arith, p.room))
     (λ c. search rules)
     (λ c κs.
-    let y : tie.After-copy-bytes = search in
+    let y : tie.After-copy_bytes = search in
     let i : tie.After-invert = search in
-    let n : tie.After-n = search in
+    let n : tie.In-Gives = search in
     let t : tie.After-test = search in
-    let bytes : tie.After-shared-slice-known = search in
+    let bytes : tie.After-shared_slice_known-1 = search in
     let x : Copied _ _ _ _ _ _ =
     record {
-      tests = passed _ _ _ t.test.ensures n.n.given.1;
-      bytes = λ j. (bytes.shared-slice-known.given j).fits;
+      tests = passed _ _ _ t.test.ensures n.in-Gives.is;
+      bytes = λ j. (bytes.shared_slice_known-1.given j).fits;
       names_are = i.invert.ensures;
-      copy_is = y.copy-bytes.ensures;
+      copy_is = y.copy_bytes.ensures;
     } in
     (back_renames x, back_holds x))
     (λ c. search rules)
     declines
     (λ c. search rules)
     (λ c.
-    let r : tie.After-rename-records = search in
-    let y : tie.After-copy-bytes = search in
+    let r : tie.After-rename_records = search in
+    let y : tie.After-copy_bytes = search in
     let i : tie.After-invert = search in
-    let n : tie.After-n = search in
+    let n : tie.In-Gives = search in
     let t : tie.After-test = search in
-    let bytes : tie.After-shared-slice-known = search in
+    let bytes : tie.After-shared_slice_known-1 = search in
     let x : Copied _ _ _ _ _ _ =
     record {
-      tests = passed _ _ _ t.test.ensures n.n.given.1;
-      bytes = λ j. (bytes.shared-slice-known.given j).fits;
+      tests = passed _ _ _ t.test.ensures n.in-Gives.is;
+      bytes = λ j. (bytes.shared_slice_known-1.given j).fits;
       names_are = i.invert.ensures;
-      copy_is = y.copy-bytes.ensures;
+      copy_is = y.copy_bytes.ensures;
     } in
-    gone_back x r.rename-records.ensures))
+    gone_back x r.rename_records.ensures))

@@ -13,16 +13,16 @@ test_spec =
     (λ c κs. search rules)
     (λ c κs. search rules)
     (λ c.
-    let off : tie.Then1 = search in
-    let w : tie.After-is-whole = search in
-    c.decline.ensures ∙ not_whole _ _ _ (sym w.is_whole.ensures ∙ not-true _ off.if1.taken))
+    let off : tie.Then-not-is_whole = search in
+    let w : tie.After-is_whole = search in
+    c.decline.ensures ∙ not_whole _ _ _ (sym w.is_whole.ensures ∙ off.if-not-is_whole.true))
     (λ c κs. search rules)
     (λ c.
-    let other : tie.Then2 = search in
-    let on : tie.Else1 = search in
-    let w : tie.After-is-whole = search in
-    c.decline2.ensures
-    ∙ no_bytes _ _ _ (sym w.is_whole.ensures ∙ not-false _ on.if1.left) other.if2.taken)
+    let other : tie.Then-table-ne-TABLE_BYTES = search in
+    let on : tie.Else-not-is_whole = search in
+    let w : tie.After-is_whole = search in
+    c.decline-then-table-ne-TABLE_BYTES.ensures
+    ∙ no_bytes _ _ _ (sym w.is_whole.ensures ∙ on.if-not-is_whole.false) other.if-table-ne-TABLE_BYTES.true)
     (λ c κs. search rules)
     (λ c. search rules)
     (λ c κs. search rules)
@@ -31,51 +31,51 @@ test_spec =
     (λ c κs. search rules)
     (λ c κs. search rules)
     (λ c.
-    let bad : tie.Then3 = search in
-    let f : tie.After-mismatch = search in
+    let bad : tie.Then-place-count = search in
+    let f : tie.After-mismatch-place = search in
     let m : tie.After-machine = search in
-    let n : tie.After-n = search in
+    let n : tie.In-Cells = search in
     let names : tie.After-names = search in
-    let long : tie.Else2 = search in
-    let on : tie.Else1 = search in
-    let w : tie.After-is-whole = search in
-    let x = tabled (sym w.is_whole.ensures ∙ not-false _ on.if1.left) long.if2.left names.names.ensures
-    n.n.given.1 in
-    c.decline4.ensures ∙ mismatched _ _ _ x m.machine.ensures f.mismatch.ensures bad.if3.taken)
+    let long : tie.Else-table-ne-TABLE_BYTES = search in
+    let on : tie.Else-not-is_whole = search in
+    let w : tie.After-is_whole = search in
+    let x = tabled (sym w.is_whole.ensures ∙ on.if-not-is_whole.false) long.if-table-ne-TABLE_BYTES.false names.names.ensures
+    n.in-Cells.is in
+    c.decline-then-place-count.ensures ∙ mismatched _ _ _ x m.machine.ensures f.mismatch-place.ensures bad.if-place-count.true)
     (λ c. search rules)
     (λ c κs. search rules)
     (λ c.
-    let short : tie.Then4 = search in
-    let good : tie.Else3 = search in
-    let f : tie.After-mismatch = search in
+    let short : tie.Then-out-count = search in
+    let good : tie.Else-place-count = search in
+    let f : tie.After-mismatch-place = search in
     let m : tie.After-machine = search in
-    let n : tie.After-n = search in
+    let n : tie.In-Cells = search in
     let names : tie.After-names = search in
-    let long : tie.Else2 = search in
-    let on : tie.Else1 = search in
-    let w : tie.After-is-whole = search in
-    let x = tabled (sym w.is_whole.ensures ∙ not-false _ on.if1.left) long.if2.left names.names.ensures
-    n.n.given.1 in
-    c.decline5.ensures
-    ∙ no_room _ _ _ x m.machine.ensures f.mismatch.ensures good.if3.left short.if4.taken)
+    let long : tie.Else-table-ne-TABLE_BYTES = search in
+    let on : tie.Else-not-is_whole = search in
+    let w : tie.After-is_whole = search in
+    let x = tabled (sym w.is_whole.ensures ∙ on.if-not-is_whole.false) long.if-table-ne-TABLE_BYTES.false names.names.ensures
+    n.in-Cells.is in
+    c.decline-then-out-count.ensures
+    ∙ no_room _ _ _ x m.machine.ensures f.mismatch-place.ensures good.if-place-count.false short.if-out-count.true)
     (λ c.
-    let none : tie.After-enum-told = search in
+    let none : tie.In-NoTable = search in
     let names : tie.After-names = search in
-    let long : tie.Else2 = search in
-    let on : tie.Else1 = search in
-    let w : tie.After-is-whole = search in
-    c.decline3.ensures
-    ∙ no_table _ _ _ (sym w.is_whole.ensures ∙ not-false _ on.if1.left) long.if2.left
-    names.names.ensures none.enum_told.given.1)
+    let long : tie.Else-table-ne-TABLE_BYTES = search in
+    let on : tie.Else-not-is_whole = search in
+    let w : tie.After-is_whole = search in
+    c.decline-in-NoTable.ensures
+    ∙ no_table _ _ _ (sym w.is_whole.ensures ∙ on.if-not-is_whole.false) long.if-table-ne-TABLE_BYTES.false
+    names.names.ensures none.in-NoTable.is)
     (λ c.
-    let good : tie.Else3 = search in
-    let f : tie.After-mismatch = search in
+    let good : tie.Else-place-count = search in
+    let f : tie.After-mismatch-place = search in
     let m : tie.After-machine = search in
-    let n : tie.After-n = search in
+    let n : tie.In-Cells = search in
     let names : tie.After-names = search in
-    let long : tie.Else2 = search in
-    let on : tie.Else1 = search in
-    let w : tie.After-is-whole = search in
-    let x = tabled (sym w.is_whole.ensures ∙ not-false _ on.if1.left) long.if2.left names.names.ensures
-    n.n.given.1 in
-    accepts _ _ _ x m.machine.ensures f.mismatch.ensures good.if3.left c.if4.false))
+    let long : tie.Else-table-ne-TABLE_BYTES = search in
+    let on : tie.Else-not-is_whole = search in
+    let w : tie.After-is_whole = search in
+    let x = tabled (sym w.is_whole.ensures ∙ on.if-not-is_whole.false) long.if-table-ne-TABLE_BYTES.false names.names.ensures
+    n.in-Cells.is in
+    accepts _ _ _ x m.machine.ensures f.mismatch-place.ensures good.if-place-count.false c.if-out-count.false))

@@ -87,30 +87,30 @@ InWriteAnd t = here write_and (and_known t) t
 
 module _ (t : ℕ) where
   -- the records of the condition behind the Nots
-  abbrev code : InWriteCondition t lts.After-past-nots → Condition → AssemblyCode
-  code p = let s : InWriteCondition t lts.Start = search in jumping p.past_nots.result.flag s.args.distance
+  abbrev code : InWriteCondition t lts.After-past_nots-bare → Condition → AssemblyCode
+  code p = let s : InWriteCondition t lts.Start = search in jumping p.past_nots-bare.result.flag s.args.distance
 
-  found : (p : InWriteCondition t lts.After-past-nots) → let s : InWriteCondition t lts.Start = search in
+  found : (p : InWriteCondition t lts.After-past_nots-bare) → let s : InWriteCondition t lts.Start = search in
       Writable (code p) s.args.distance
-      (condition s.args.text.now p.past_nots.result.nest p.past_nots.result.at) s.args.out.now
+      (condition s.args.text.now p.past_nots-bare.result.nest p.past_nots-bare.result.at) s.args.out.now
   found p =
       let s : InWriteCondition t lts.Start = search in
-      nots.writable p.past_nots.ensures.0 _ s.pre.1.0
+      nots.writable p.past_nots-bare.ensures.0 _ s.requires.1.0
 
   -- ---- Bc
 
   -- whether its value is the flag
-  abbrev equal : InWriteCondition t lts.After-past-nots → Bool
+  abbrev equal : InWriteCondition t lts.After-past_nots-bare → Bool
   equal p =
       let s : InWriteCondition t lts.Start = search in
-      let bare = p.past_nots.result in
+      let bare = p.past_nots-bare.result in
       beq (eqb (get_or s.args.text.now (bare.at + 1) 0) 1) bare.flag
 
-  module _ (p : InWriteCondition t lts.After-past-nots) where
+  module _ (p : InWriteCondition t lts.After-past_nots-bare) where
     abbrev start : InWriteCondition t lts.Start
     start = search
 
-    module _ (byte : get_or start.args.text.now p.past_nots.result.at 0 ≡ 0x20) where
+    module _ (byte : get_or start.args.text.now p.past_nots-bare.result.at 0 ≡ 0x20) where
       value_code : code p (found p).part ≡ (if equal p then JMP (pos start.args.distance) ∷ [] else [])
       unfolding bcomp
       value_code = ap (code p) (text_says.bc_at _ _ _ (found p).is byte).is
@@ -123,32 +123,32 @@ module _ (t : ℕ) where
         jump : (n ≡ 0 → ⊥) → code p (found p).part ≡ JMP (pos start.args.distance) ∷ []
         jump one_left = value_code ∙ some (equal p) _ size one_left
 
-  returns : InWriteCondition t lts.Need-returns
+  returns : InWriteCondition t lts.Need-returns-then-value_size-eq0
   returns c =
-      let size : InWriteCondition t lts.After-value-size = search in
-      let on : InWriteCondition t lts.Then1 = search in
-      let p : InWriteCondition t lts.After-past-nots = search in
+      let size : InWriteCondition t lts.After-value_size = search in
+      let on : InWriteCondition t lts.Then-byte-eq-BC = search in
+      let p : InWriteCondition t lts.After-past_nots-bare = search in
       let s : InWriteCondition t lts.Start = search in
-      let ends = (text_says.bc_at _ _ _ (found p).is on.if1.taken).ends in
-      let none = nothing p on.if1.taken size.value_size.ensures c.if2.true in
+      let ends = (text_says.bc_at _ _ _ (found p).is on.if-byte-eq-BC.true).ends in
+      let none = nothing p on.if-byte-eq-BC.true size.value_size.ensures c.if-value_size-eq0.true in
       let wrote = rows.nothing (found p) none ends refl in
-      (nots.writes p.past_nots.ensures.0 s.args.distance wrote, s.pre.1.1.1)
+      (nots.writes p.past_nots-bare.ensures.0 s.args.distance wrote, s.requires.1.1.1)
 
-  returns_2 : InWriteCondition t lts.Need-returns-2
+  returns_2 : InWriteCondition t lts.Need-returns-then-byte-eq-BC
   unfolding first_byte operand
   returns_2 c =
-      let put : InWriteCondition t lts.After-put-record = search in
-      let some_left : InWriteCondition t lts.Else2 = search in
-      let size : InWriteCondition t lts.After-value-size = search in
-      let on : InWriteCondition t lts.Then1 = search in
-      let p : InWriteCondition t lts.After-past-nots = search in
+      let put : InWriteCondition t lts.After-put_record = search in
+      let some_left : InWriteCondition t lts.Else-value_size-eq0 = search in
+      let size : InWriteCondition t lts.After-value_size = search in
+      let on : InWriteCondition t lts.Then-byte-eq-BC = search in
+      let p : InWriteCondition t lts.After-past_nots-bare = search in
       let s : InWriteCondition t lts.Start = search in
-      let number = to_z_pos w32 {n = s.args.distance} (omega (arith, s.pre.1.0.few)) in
-      let is = jump p on.if1.taken size.value_size.ensures some_left.if2.left in
-      let ends = (text_says.bc_at _ _ _ (found p).is on.if1.taken).ends in
+      let number = to_z_pos w32 {n = s.args.distance} (omega (arith, s.requires.1.0.few)) in
+      let is = jump p on.if-byte-eq-BC.true size.value_size.ensures some_left.if-value_size-eq0.false in
+      let ends = (text_says.bc_at _ _ _ (found p).is on.if-byte-eq-BC.true).ends in
       let stands = one {index = 0} _ (rows.leaf_room (found p) _ is) put.put_record.ensures refl number in
       let wrote = rows.leaf (found p) (JMP (pos s.args.distance)) is ends refl stands in
-      (nots.writes p.past_nots.ensures.0 s.args.distance wrote, s.pre.1.1.1)
+      (nots.writes p.past_nots-bare.ensures.0 s.args.distance wrote, s.requires.1.1.1)
 
 -- ---- And
 
@@ -173,15 +173,15 @@ module _ (t : ℕ) where
       }
 
   -- the row of both sides, as far as the left side is told to jump
-  row : (far : InWriteAnd t and_lts.After-reach) → let s : InWriteAnd t and_lts.Start = search in
+  row : (far : InWriteAnd t and_lts.After-reach-over) → let s : InWriteAnd t and_lts.Start = search in
       Row (condition s.args.text.now (s.args.nest - 1)) (condition s.args.text.now (s.args.nest - 1))
-      And s.pre.1.1.0.part (jumping false far.reach.result) (jumping s.args.flag s.args.distance) []
-      (jumping s.args.flag s.args.distance s.pre.1.1.0.part) (s.args.at + 1) s.pre.1.1.0.next
+      And s.requires.1.1.0.part (jumping false far.reach-over.result) (jumping s.args.flag s.args.distance) []
+      (jumping s.args.flag s.args.distance s.requires.1.1.0.part) (s.args.at + 1) s.requires.1.1.0.next
       s.args.out.now
   row far =
-      let known : InWriteAnd t and_lts.After-known-size = search in
+      let known : InWriteAnd t and_lts.After-known_size-left = search in
       let s : InWriteAnd t and_lts.Start = search in
-      sides.sides (both s) known.known_size.ensures.0 far.reach.ensures
+      sides.sides (both s) known.known_size-left.ensures.0 far.reach-over.ensures
 
 pub +write_and_write_condition_spec : {M : Type 1} → statement M
 +write_and_write_condition_spec =
@@ -193,139 +193,139 @@ pub +write_and_write_condition_spec : {M : Type 1} → statement M
     -- known-size-requires
     (λ c κs.
     let s : InWriteAnd t and_lts.Start = search in
-    (sides.left_countable (both t s), s.pre.1.1.1.1))
+    (sides.left_countable (both t s), s.requires.1.1.1.1))
     -- sub-right
     (λ c.
-    let known : InWriteAnd t and_lts.After-known-size = search in
+    let known : InWriteAnd t and_lts.After-known_size-left = search in
     let s : InWriteAnd t and_lts.Start = search in
-    sides.left_fits (both t s) known.known_size.ensures.0)
+    sides.left_fits (both t s) known.known_size-left.ensures.0)
     -- reach-requires
     (λ c κs.
-    let known : InWriteAnd t and_lts.After-known-size = search in
+    let known : InWriteAnd t and_lts.After-known_size-left = search in
     let s : InWriteAnd t and_lts.Start = search in
-    sides.reach_fits (both t s) known.known_size.ensures.0)
+    sides.reach_fits (both t s) known.known_size-left.ensures.0)
     (λ c. let s : InWriteAnd t and_lts.Start = search in record { fits = and_next_fits t s })
     (λ c. let s : InWriteAnd t and_lts.Start = search in (and_opened t s).nested)
     -- write-condition-requires
     (λ c κs.
-    let far : InWriteAnd t and_lts.After-reach = search in
-    let known : InWriteAnd t and_lts.After-known-size = search in
+    let far : InWriteAnd t and_lts.After-reach-over = search in
+    let known : InWriteAnd t and_lts.After-known_size-left = search in
     let s : InWriteAnd t and_lts.Start = search in
-    let k = known.known_size.ensures in
-    (text_says.down (and_opened t s) s.pre.0, (sides.left_writable (both t s) k.0 far.reach.ensures, k)))
+    let k = known.known_size-left.ensures in
+    (text_says.down (and_opened t s) s.requires.0, (sides.left_writable (both t s) k.0 far.reach-over.ensures, k)))
     -- mul-start
     (λ c.
-    let first : InWriteAnd t and_lts.After-write-condition = search in
-    let far : InWriteAnd t and_lts.After-reach = search in
-    record { fits = omega (arith, rows.first_few (row t far) first.write_condition.ensures.0) })
+    let first : InWriteAnd t and_lts.After-write_condition-first = search in
+    let far : InWriteAnd t and_lts.After-reach-over = search in
+    record { fits = omega (arith, rows.first_few (row t far) first.write_condition-first.ensures.0) })
     (λ c. let s : InWriteAnd t and_lts.Start = search in (and_opened t s).nested)
     -- sub-write-condition-3
     (λ c.
-    let first : InWriteAnd t and_lts.After-write-condition = search in
-    let far : InWriteAnd t and_lts.After-reach = search in
-    rows.second_start (row t far) first.write_condition.ensures.0)
+    let first : InWriteAnd t and_lts.After-write_condition-first = search in
+    let far : InWriteAnd t and_lts.After-reach-over = search in
+    rows.second_start (row t far) first.write_condition-first.ensures.0)
     (λ c.
-    let first : InWriteAnd t and_lts.After-write-condition = search in
-    let far : InWriteAnd t and_lts.After-reach = search in
-    rows.second_start (row t far) first.write_condition.ensures.0)
+    let first : InWriteAnd t and_lts.After-write_condition-first = search in
+    let far : InWriteAnd t and_lts.After-reach-over = search in
+    rows.second_start (row t far) first.write_condition-first.ensures.0)
     (λ c. search rules)
     -- write-condition-requires-2
     (λ c κs.
-    let first : InWriteAnd t and_lts.After-write-condition = search in
-    let far : InWriteAnd t and_lts.After-reach = search in
-    let known : InWriteAnd t and_lts.After-known-size = search in
+    let first : InWriteAnd t and_lts.After-write_condition-first = search in
+    let far : InWriteAnd t and_lts.After-reach-over = search in
+    let known : InWriteAnd t and_lts.After-known_size-left = search in
     let s : InWriteAnd t and_lts.Start = search in
-    let k = known.known_size.ensures.0 in
-    let w = first.write_condition.ensures in (
-      text_says.down (and_opened t s) s.pre.0,
+    let k = known.known_size-left.ensures.0 in
+    let w = first.write_condition-first.ensures in (
+      text_says.down (and_opened t s) s.requires.0,
       (
-        sides.right_writable (both t s) k far.reach.ensures w.0,
-        (sides.right_sized (both t s) k far.reach.ensures w.0, w.1),
+        sides.right_writable (both t s) k far.reach-over.ensures w.0,
+        (sides.right_sized (both t s) k far.reach-over.ensures w.0, w.1),
       ),
     ))
     -- same-length
     (λ c.
-    let second : InWriteAnd t and_lts.After-write-condition2 = search in
-    let first : InWriteAnd t and_lts.After-write-condition = search in
-    let far : InWriteAnd t and_lts.After-reach = search in
-    kept (rows.in_a_row (row t far) first.write_condition.ensures.0 second.write-condition2.ensures.0))
+    let second : InWriteAnd t and_lts.After-write_condition-second = search in
+    let first : InWriteAnd t and_lts.After-write_condition-first = search in
+    let far : InWriteAnd t and_lts.After-reach-over = search in
+    kept (rows.in_a_row (row t far) first.write_condition-first.ensures.0 second.write_condition-second.ensures.0))
     -- returns
     (λ c.
-    let second : InWriteAnd t and_lts.After-write-condition2 = search in
-    let first : InWriteAnd t and_lts.After-write-condition = search in
-    let far : InWriteAnd t and_lts.After-reach = search in
+    let second : InWriteAnd t and_lts.After-write_condition-second = search in
+    let first : InWriteAnd t and_lts.After-write_condition-first = search in
+    let far : InWriteAnd t and_lts.After-reach-over = search in
     let s : InWriteAnd t and_lts.Start = search in
-    let w = first.write_condition.ensures.0 in
-    let v = second.write-condition2.ensures in
+    let w = first.write_condition-first.ensures.0 in
+    let v = second.write_condition-second.ensures in
     let ends = (rows.counted (row t far) w v.0).ends in
     let stands = rows.in_a_row (row t far) w v.0 in
-    (rows.wrote_all s.pre.1.1.0 (rows.wrote ends (sides.all (both t s)) stands), v.1)))
+    (rows.wrote_all s.requires.1.1.0 (rows.wrote ends (sides.all (both t s)) stands), v.1)))
     (λ t.
     lts.spec (known t) (at write_condition t) write_condition.post
     -- past-nots-requires
-    (λ c κs. let s : InWriteCondition t lts.Start = search in (_, (_, s.pre.1.0.is)))
+    (λ c κs. let s : InWriteCondition t lts.Start = search in (_, (_, s.requires.1.0.is)))
     (λ c.
-    let p : InWriteCondition t lts.After-past-nots = search in
+    let p : InWriteCondition t lts.After-past_nots-bare = search in
     (text_says.condition_opened _ _ _ (found t p).is).inside)
     -- Bc
     (λ c.
-    let p : InWriteCondition t lts.After-past-nots = search in
+    let p : InWriteCondition t lts.After-past_nots-bare = search in
     let s : InWriteCondition t lts.Start = search in
-    record { fits = omega (arith, (text_says.condition_opened _ _ _ (found t p).is).inside, s.good.0.0) })
+    record { fits = omega (arith, (text_says.condition_opened _ _ _ (found t p).is).inside, s.well_formed.0.0) })
     (λ c.
-    let on : InWriteCondition t lts.Then1 = search in
-    let p : InWriteCondition t lts.After-past-nots = search in
-    omega (arith, (text_says.bc_at _ _ _ (found t p).is on.if1.taken).inside))
+    let on : InWriteCondition t lts.Then-byte-eq-BC = search in
+    let p : InWriteCondition t lts.After-past_nots-bare = search in
+    omega (arith, (text_says.bc_at _ _ _ (found t p).is on.if-byte-eq-BC.true).inside))
     (λ c κs. search rules)
     (λ c.
-    let on : InWriteCondition t lts.Then1 = search in
-    let p : InWriteCondition t lts.After-past-nots = search in
+    let on : InWriteCondition t lts.Then-byte-eq-BC = search in
+    let p : InWriteCondition t lts.After-past_nots-bare = search in
     let s : InWriteCondition t lts.Start = search in
-    record { fits = omega (arith, (text_says.bc_at _ _ _ (found t p).is on.if1.taken).inside, s.good.0.0) })
+    record { fits = omega (arith, (text_says.bc_at _ _ _ (found t p).is on.if-byte-eq-BC.true).inside, s.well_formed.0.0) })
     (returns t)
-    (λ c. let s : InWriteCondition t lts.Start = search in record { sfits = omega (arith, s.pre.1.0.few) })
+    (λ c. let s : InWriteCondition t lts.Start = search in record { sfits = omega (arith, s.requires.1.0.few) })
     (λ c κs.
-    let some_left : InWriteCondition t lts.Else2 = search in
-    let size : InWriteCondition t lts.After-value-size = search in
-    let on : InWriteCondition t lts.Then1 = search in
-    let p : InWriteCondition t lts.After-past-nots = search in
-    rows.leaf_room (found t p) _ (jump t p on.if1.taken size.value_size.ensures some_left.if2.left))
+    let some_left : InWriteCondition t lts.Else-value_size-eq0 = search in
+    let size : InWriteCondition t lts.After-value_size = search in
+    let on : InWriteCondition t lts.Then-byte-eq-BC = search in
+    let p : InWriteCondition t lts.After-past_nots-bare = search in
+    rows.leaf_room (found t p) _ (jump t p on.if-byte-eq-BC.true size.value_size.ensures some_left.if-value_size-eq0.false))
     (λ c.
-    let on : InWriteCondition t lts.Then1 = search in
-    let p : InWriteCondition t lts.After-past-nots = search in
+    let on : InWriteCondition t lts.Then-byte-eq-BC = search in
+    let p : InWriteCondition t lts.After-past_nots-bare = search in
     let s : InWriteCondition t lts.Start = search in
-    record { fits = omega (arith, (text_says.bc_at _ _ _ (found t p).is on.if1.taken).inside, s.good.0.0) })
-    (λ c. let put : InWriteCondition t lts.After-put-record = search in put.put_record.kept.0)
+    record { fits = omega (arith, (text_says.bc_at _ _ _ (found t p).is on.if-byte-eq-BC.true).inside, s.well_formed.0.0) })
+    (λ c. let put : InWriteCondition t lts.After-put_record = search in put.put_record.kept.0)
     (returns_2 t)
     -- And
     (λ c κs.
-    let on : InWriteCondition t lts.Then3 = search in
-    let p : InWriteCondition t lts.After-past-nots = search in
+    let on : InWriteCondition t lts.Then-byte-eq-AND = search in
+    let p : InWriteCondition t lts.After-past_nots-bare = search in
     let s : InWriteCondition t lts.Start = search in
-    let behind = p.past_nots.ensures.0 in
-    let read = s.pre.1.0.is in (
-      omega (arith, (behind _ _ read).nest, s.pre.0),
-      (on.if3.taken, (found t p, (sized_behind behind read s.pre.1.1.0, s.pre.1.1.1))),
+    let behind = p.past_nots-bare.ensures.0 in
+    let read = s.requires.1.0.is in (
+      omega (arith, (behind _ _ read).nest, s.requires.0),
+      (on.if-byte-eq-AND.true, (found t p, (sized_behind behind read s.requires.1.1.0, s.requires.1.1.1))),
     ))
-    (λ c. let w : InWriteCondition t lts.After-write-and = search in w.write_and.kept.1.1.1.1.1.1.1.0)
+    (λ c. let w : InWriteCondition t lts.After-write_and = search in w.write_and.kept.1.1.1.1.1.1.1.0)
     (λ c.
-    let w : InWriteCondition t lts.After-write-and = search in
-    let p : InWriteCondition t lts.After-past-nots = search in
+    let w : InWriteCondition t lts.After-write_and = search in
+    let p : InWriteCondition t lts.After-past_nots-bare = search in
     let s : InWriteCondition t lts.Start = search in
-    (nots.writes p.past_nots.ensures.0 s.args.distance w.write_and.ensures.0, w.write_and.ensures.1))
+    (nots.writes p.past_nots-bare.ensures.0 s.args.distance w.write_and.ensures.0, w.write_and.ensures.1))
     -- Less
     (λ c κs.
-    let no_and : InWriteCondition t lts.Else3 = search in
-    let no_bc : InWriteCondition t lts.Else1 = search in
-    let p : InWriteCondition t lts.After-past-nots = search in
+    let no_and : InWriteCondition t lts.Else-byte-eq-AND = search in
+    let no_bc : InWriteCondition t lts.Else-byte-eq-BC = search in
+    let p : InWriteCondition t lts.After-past_nots-bare = search in
     let s : InWriteCondition t lts.Start = search in
-    let bare = p.past_nots.result in
+    let bare = p.past_nots-bare.result in
     let byte = text_says.last_condition s.args.text.now bare.nest bare.at (found t p).is
-    no_bc.if1.left p.past_nots.ensures.1 no_and.if3.left in
+    no_bc.if-byte-eq-BC.false p.past_nots-bare.ensures.1 no_and.if-byte-eq-AND.false in
     (byte, found t p))
-    (λ c. let w : InWriteCondition t lts.After-write-less = search in w.write_less.kept.1.1.1.1.1.0)
+    (λ c. let w : InWriteCondition t lts.After-write_less = search in w.write_less.kept.1.1.1.1.1.0)
     (λ c.
-    let w : InWriteCondition t lts.After-write-less = search in
-    let p : InWriteCondition t lts.After-past-nots = search in
+    let w : InWriteCondition t lts.After-write_less = search in
+    let p : InWriteCondition t lts.After-past_nots-bare = search in
     let s : InWriteCondition t lts.Start = search in
-    (nots.writes p.past_nots.ensures.0 s.args.distance w.write_less.ensures, s.pre.1.1.1)))
+    (nots.writes p.past_nots-bare.ensures.0 s.args.distance w.write_less.ensures, s.requires.1.1.1)))

@@ -71,14 +71,14 @@ module _ (t : ℕ) where
       record { parts = p; is = ap acomp p.is; room = q.room; few = omega (arith, q.few) }
 
   -- how many records there are with ADD behind the sides
-  both_few : (v : InWriteExpression t lts.After-write-side2)
-      → let w : InWriteExpression t lts.After-write-side = search in
-      w.write_side.result.records + v.write-side2.result.records + 1 < 2147483648
+  both_few : (v : InWriteExpression t lts.After-write_side-second)
+      → let w : InWriteExpression t lts.After-write_side-first = search in
+      w.write_side-first.result.records + v.write_side-second.result.records + 1 < 2147483648
   both_few v =
-      let w : InWriteExpression t lts.After-write-side = search in
-      let on : InWriteExpression t lts.Else1 = search in
+      let w : InWriteExpression t lts.After-write_side-first = search in
+      let on : InWriteExpression t lts.Else-text-at-ne-PLUS = search in
       let s : InWriteExpression t lts.Start = search in
-      (rows.counted (sides s on.if1.left) w.write_side.ensures v.write-side2.ensures).few
+      (rows.counted (sides s on.if-text-at-ne-PLUS.false) w.write_side-first.ensures v.write_side-second.ensures).few
 
 -- ---- A side
 
@@ -89,87 +89,87 @@ pub +write_expression_write_side_spec : {M : Type 1} → statement M
     lts.spec (known t) (at write_expression t) write_expression.post
     (λ c.
     let s : InWriteExpression t lts.Start = search in
-    (text_says.expression_opened _ _ _ s.pre.1.is).inside)
+    (text_says.expression_opened _ _ _ s.requires.1.is).inside)
     (λ c κs. search rules)
-    (λ c. let leaf : InWriteExpression t lts.After-write-leaf = search in leaf.write_leaf.kept.1.1.1.0)
-    (λ c. let leaf : InWriteExpression t lts.After-write-leaf = search in leaf.write_leaf.ensures)
+    (λ c. let leaf : InWriteExpression t lts.After-write_leaf = search in leaf.write_leaf.kept.1.1.1.0)
+    (λ c. let leaf : InWriteExpression t lts.After-write_leaf = search in leaf.write_leaf.ensures)
     (λ c.
     let s : InWriteExpression t lts.Start = search in
-    record { fits = omega (arith, (text_says.expression_opened _ _ _ s.pre.1.is).inside, s.good.0.0) })
+    record { fits = omega (arith, (text_says.expression_opened _ _ _ s.requires.1.is).inside, s.well_formed.0.0) })
     (λ c.
     let s : InWriteExpression t lts.Start = search in
-    (text_says.expression_opened _ _ _ s.pre.1.is).nested)
+    (text_says.expression_opened _ _ _ s.requires.1.is).nested)
     (λ c κs.
-    let on : InWriteExpression t lts.Else1 = search in
+    let on : InWriteExpression t lts.Else-text-at-ne-PLUS = search in
     let s : InWriteExpression t lts.Start = search in
-    let o = text_says.expression_opened _ _ _ s.pre.1.is in
-    (text_says.down o s.pre.0, rows.first_writable (sides t s on.if1.left)))
+    let o = text_says.expression_opened _ _ _ s.requires.1.is in
+    (text_says.down o s.requires.0, rows.first_writable (sides t s on.if-text-at-ne-PLUS.false)))
     (λ c.
-    let first : InWriteExpression t lts.After-write-side = search in
-    let on : InWriteExpression t lts.Else1 = search in
+    let first : InWriteExpression t lts.After-write_side-first = search in
+    let on : InWriteExpression t lts.Else-text-at-ne-PLUS = search in
     let s : InWriteExpression t lts.Start = search in
-    record { fits = omega (arith, rows.first_few (sides t s on.if1.left) first.write_side.ensures) })
+    record { fits = omega (arith, rows.first_few (sides t s on.if-text-at-ne-PLUS.false) first.write_side-first.ensures) })
     (λ c.
     let s : InWriteExpression t lts.Start = search in
-    (text_says.expression_opened _ _ _ s.pre.1.is).nested)
+    (text_says.expression_opened _ _ _ s.requires.1.is).nested)
     (λ c.
-    let first : InWriteExpression t lts.After-write-side = search in
-    let on : InWriteExpression t lts.Else1 = search in
+    let first : InWriteExpression t lts.After-write_side-first = search in
+    let on : InWriteExpression t lts.Else-text-at-ne-PLUS = search in
     let s : InWriteExpression t lts.Start = search in
-    rows.second_start (sides t s on.if1.left) first.write_side.ensures)
+    rows.second_start (sides t s on.if-text-at-ne-PLUS.false) first.write_side-first.ensures)
     (λ c.
-    let first : InWriteExpression t lts.After-write-side = search in
-    let on : InWriteExpression t lts.Else1 = search in
+    let first : InWriteExpression t lts.After-write_side-first = search in
+    let on : InWriteExpression t lts.Else-text-at-ne-PLUS = search in
     let s : InWriteExpression t lts.Start = search in
-    rows.second_start (sides t s on.if1.left) first.write_side.ensures)
+    rows.second_start (sides t s on.if-text-at-ne-PLUS.false) first.write_side-first.ensures)
     (λ c. search rules)
     (λ c κs.
-    let first : InWriteExpression t lts.After-write-side = search in
-    let on : InWriteExpression t lts.Else1 = search in
+    let first : InWriteExpression t lts.After-write_side-first = search in
+    let on : InWriteExpression t lts.Else-text-at-ne-PLUS = search in
     let s : InWriteExpression t lts.Start = search in
-    let o = text_says.expression_opened _ _ _ s.pre.1.is in
-    (text_says.down o s.pre.0, rows.second_writable (sides t s on.if1.left) first.write_side.ensures))
-    (λ c. let v : InWriteExpression t lts.After-write-side2 = search in record { fits = omega (arith, both_few t v) })
+    let o = text_says.expression_opened _ _ _ s.requires.1.is in
+    (text_says.down o s.requires.0, rows.second_writable (sides t s on.if-text-at-ne-PLUS.false) first.write_side-first.ensures))
+    (λ c. let v : InWriteExpression t lts.After-write_side-second = search in record { fits = omega (arith, both_few t v) })
     (λ c κs.
-    let second : InWriteExpression t lts.After-write-side2 = search in
-    let first : InWriteExpression t lts.After-write-side = search in
-    let on : InWriteExpression t lts.Else1 = search in
+    let second : InWriteExpression t lts.After-write_side-second = search in
+    let first : InWriteExpression t lts.After-write_side-first = search in
+    let on : InWriteExpression t lts.Else-text-at-ne-PLUS = search in
     let s : InWriteExpression t lts.Start = search in
-    let p = sides t s on.if1.left in
-    let w = first.write_side.ensures in
-    let v = second.write-side2.ensures in
+    let p = sides t s on.if-text-at-ne-PLUS.false in
+    let w = first.write_side-first.ensures in
+    let v = second.write_side-second.ensures in
     rows.last_room p w v)
-    (λ c. let v : InWriteExpression t lts.After-write-side2 = search in record { fits = omega (arith, both_few t v) })
+    (λ c. let v : InWriteExpression t lts.After-write_side-second = search in record { fits = omega (arith, both_few t v) })
     (λ c.
-    let add : InWriteExpression t lts.After-put-record = search in
-    let second : InWriteExpression t lts.After-write-side2 = search in
-    let first : InWriteExpression t lts.After-write-side = search in
-    let on : InWriteExpression t lts.Else1 = search in
+    let add : InWriteExpression t lts.After-put_record = search in
+    let second : InWriteExpression t lts.After-write_side-second = search in
+    let first : InWriteExpression t lts.After-write_side-first = search in
+    let on : InWriteExpression t lts.Else-text-at-ne-PLUS = search in
     let s : InWriteExpression t lts.Start = search in
-    let p = sides t s on.if1.left in
-    let w = first.write_side.ensures in
-    let v = second.write-side2.ensures in
+    let p = sides t s on.if-text-at-ne-PLUS.false in
+    let w = first.write_side-first.ensures in
+    let v = second.write_side-second.ensures in
     kept (rows.with_last p w v (add_stands (rows.last_room p w v) add.put_record.ensures)))
     (λ c.
-    let add : InWriteExpression t lts.After-put-record = search in
-    let second : InWriteExpression t lts.After-write-side2 = search in
-    let first : InWriteExpression t lts.After-write-side = search in
-    let on : InWriteExpression t lts.Else1 = search in
+    let add : InWriteExpression t lts.After-put_record = search in
+    let second : InWriteExpression t lts.After-write_side-second = search in
+    let first : InWriteExpression t lts.After-write_side-first = search in
+    let on : InWriteExpression t lts.Else-text-at-ne-PLUS = search in
     let s : InWriteExpression t lts.Start = search in
-    let p = sides t s on.if1.left in
-    let w = first.write_side.ensures in
-    let v = second.write-side2.ensures in
+    let p = sides t s on.if-text-at-ne-PLUS.false in
+    let w = first.write_side-first.ensures in
+    let v = second.write_side-second.ensures in
     let size = rows.counted p w v in
     let all = rows.with_last p w v (add_stands (rows.last_room p w v) add.put_record.ensures) in
-    rows.wrote_all s.pre.1 (rows.wrote size.ends size.all all)))
+    rows.wrote_all s.requires.1 (rows.wrote size.ends size.all all)))
     (λ t.
     side_lts.spec (side_known t) (at write_side t) write_side.post
-    (λ c. let s : InWriteSide t side_lts.Start = search in (text_says.expression_opened _ _ _ s.pre.1.is).inside)
+    (λ c. let s : InWriteSide t side_lts.Start = search in (text_says.expression_opened _ _ _ s.requires.1.is).inside)
     (λ c κs. search rules)
     (λ c.
-    let sum : InWriteSide t side_lts.After-write-expression = search in
+    let sum : InWriteSide t side_lts.After-write_expression = search in
     sum.write_expression.kept.1.1.1.0)
-    (λ c. let sum : InWriteSide t side_lts.After-write-expression = search in sum.write_expression.ensures)
+    (λ c. let sum : InWriteSide t side_lts.After-write_expression = search in sum.write_expression.ensures)
     (λ c κs. search rules)
-    (λ c. let leaf : InWriteSide t side_lts.After-write-leaf = search in leaf.write_leaf.kept.1.1.1.0)
-    (λ c. let leaf : InWriteSide t side_lts.After-write-leaf = search in leaf.write_leaf.ensures))
+    (λ c. let leaf : InWriteSide t side_lts.After-write_leaf = search in leaf.write_leaf.kept.1.1.1.0)
+    (λ c. let leaf : InWriteSide t side_lts.After-write_leaf = search in leaf.write_leaf.ensures))

@@ -59,62 +59,62 @@ write_less_spec =
     (tie.spec
     (λ c.
     let s : tie.Start = search in
-    record { fits = omega (arith, (text_says.condition_opened _ _ _ s.pre.1.is).inside, s.good.0.0) })
-    (λ c. let s : tie.Start = search in (text_says.condition_opened _ _ _ s.pre.1.is).nested)
+    record { fits = omega (arith, (text_says.condition_opened _ _ _ s.requires.1.is).inside, s.well_formed.0.0) })
+    (λ c. let s : tie.Start = search in (text_says.condition_opened _ _ _ s.requires.1.is).nested)
     (λ c κs. let s : tie.Start = search in rows.first_writable (sides s))
     (λ c.
-    let first : tie.After-write-side = search in
+    let first : tie.After-write_side-first = search in
     let s : tie.Start = search in
-    record { fits = omega (arith, rows.first_few (sides s) first.write_side.ensures) })
-    (λ c. let s : tie.Start = search in (text_says.condition_opened _ _ _ s.pre.1.is).nested)
+    record { fits = omega (arith, rows.first_few (sides s) first.write_side-first.ensures) })
+    (λ c. let s : tie.Start = search in (text_says.condition_opened _ _ _ s.requires.1.is).nested)
     (λ c.
-    let first : tie.After-write-side = search in
+    let first : tie.After-write_side-first = search in
     let s : tie.Start = search in
-    rows.second_start (sides s) first.write_side.ensures)
+    rows.second_start (sides s) first.write_side-first.ensures)
     (λ c.
-    let first : tie.After-write-side = search in
+    let first : tie.After-write_side-first = search in
     let s : tie.Start = search in
-    rows.second_start (sides s) first.write_side.ensures)
+    rows.second_start (sides s) first.write_side-first.ensures)
     (λ c. search rules)
     (λ c κs.
-    let first : tie.After-write-side = search in
+    let first : tie.After-write_side-first = search in
     let s : tie.Start = search in
-    rows.second_writable (sides s) first.write_side.ensures)
+    rows.second_writable (sides s) first.write_side-first.ensures)
     (λ c.
-    let second : tie.After-write-side2 = search in
-    let first : tie.After-write-side = search in
+    let second : tie.After-write_side-second = search in
+    let first : tie.After-write_side-first = search in
     let s : tie.Start = search in
-    let w = first.write_side.ensures in
-    let v = second.write-side2.ensures in
+    let w = first.write_side-first.ensures in
+    let v = second.write_side-second.ensures in
     record { fits = omega (arith, (rows.counted (sides s) w v).few) })
     (λ c κs. search rules)
-    (λ c. let s : tie.Start = search in record { sfits = omega (arith, s.pre.1.few) })
+    (λ c. let s : tie.Start = search in record { sfits = omega (arith, s.requires.1.few) })
     (λ c κs.
-    let second : tie.After-write-side2 = search in
-    let first : tie.After-write-side = search in
+    let second : tie.After-write_side-second = search in
+    let first : tie.After-write_side-first = search in
     let s : tie.Start = search in
-    rows.last_room (sides s) first.write_side.ensures second.write-side2.ensures)
+    rows.last_room (sides s) first.write_side-first.ensures second.write_side-second.ensures)
     (λ c.
-    let second : tie.After-write-side2 = search in
-    let first : tie.After-write-side = search in
+    let second : tie.After-write_side-second = search in
+    let first : tie.After-write_side-first = search in
     let s : tie.Start = search in
-    let w = first.write_side.ensures in
-    let v = second.write-side2.ensures in
+    let w = first.write_side-first.ensures in
+    let v = second.write_side-second.ensures in
     record { fits = omega (arith, (rows.counted (sides s) w v).few) })
     (λ c. search rules)
     (λ c.
-    let put : tie.After-put-record = search in
+    let put : tie.After-put_record = search in
     let byte : tie.After-compare = search in
-    let second : tie.After-write-side2 = search in
-    let first : tie.After-write-side = search in
+    let second : tie.After-write_side-second = search in
+    let first : tie.After-write_side-first = search in
     let s : tie.Start = search in
-    let w = first.write_side.ensures in
-    let v = second.write-side2.ensures in
+    let w = first.write_side-first.ensures in
+    let v = second.write_side-second.ensures in
     let size = rows.counted (sides s) w v in
     let flag = s.args.flag in
     let distance = s.args.distance in
-    let number = to_z_pos w32 {n = distance} (omega (arith, s.pre.1.few)) ∙ jump_operand flag distance in
+    let number = to_z_pos w32 {n = distance} (omega (arith, s.requires.1.few)) ∙ jump_operand flag distance in
     let all = rows.with_last (sides s) w v
     (one (jump flag distance) (rows.last_room (sides s) w v) put.put_record.ensures
     (byte.compare.ensures ∙ jump_byte flag distance) number) in
-    rows.wrote_all s.pre.1 (rows.wrote size.ends size.all all)))
+    rows.wrote_all s.requires.1 (rows.wrote size.ends size.all all)))

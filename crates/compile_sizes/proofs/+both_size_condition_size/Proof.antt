@@ -60,23 +60,23 @@ InBothSize t = here both_size (both_known t) t
 
 module _ (t : ℕ) where
   -- what stands behind the Nots
-  found : (p : InConditionSize t lts.After-past-nots) → let s : InConditionSize t lts.Start = search in
-      Countable (size p.past_nots.result.flag)
-      (condition s.args.text.now p.past_nots.result.nest p.past_nots.result.at)
-  found p = let s : InConditionSize t lts.Start = search in nots.countable p.past_nots.ensures.0 s.pre.1.0
+  found : (p : InConditionSize t lts.After-past_nots-bare) → let s : InConditionSize t lts.Start = search in
+      Countable (size p.past_nots-bare.result.flag)
+      (condition s.args.text.now p.past_nots-bare.result.nest p.past_nots-bare.result.at)
+  found p = let s : InConditionSize t lts.Start = search in nots.countable p.past_nots-bare.ensures.0 s.requires.1.0
 
   -- ---- Bc
 
-  returns : InConditionSize t lts.Need-returns
+  returns : InConditionSize t lts.Need-returns-then-byte-eq-BC
   unfolding condition_records
   returns c =
-      let on : InConditionSize t lts.Then1 = search in
-      let p : InConditionSize t lts.After-past-nots = search in
+      let on : InConditionSize t lts.Then-byte-eq-BC = search in
+      let p : InConditionSize t lts.After-past_nots-bare = search in
       let s : InConditionSize t lts.Start = search in
       let q = found p in
-      let v = text_says.bc_at _ _ _ q.is on.if1.taken in
-      let size_is = c.value_size.ensures ∙ sym (ap (size p.past_nots.result.flag) v.is) in
-      (nots.counts p.past_nots.ensures.0 (told q v.ends size_is), s.pre.1.1)
+      let v = text_says.bc_at _ _ _ q.is on.if-byte-eq-BC.true in
+      let size_is = c.value_size.ensures ∙ sym (ap (size p.past_nots-bare.result.flag) v.is) in
+      (nots.counts p.past_nots-bare.ensures.0 (told q v.ends size_is), s.requires.1.1)
 
 -- ---- And
 
@@ -92,14 +92,14 @@ module _ (t : ℕ) where
       let sum = ap (size s.args.flag) p.is in
       record { parts = p; sum = omega (arith, sum); few = q.few }
 
-  both_counted : (two : InBothSize t both_lts.After-condition-size2)
-      → let one : InBothSize t both_lts.After-condition-size = search in
+  both_counted : (two : InBothSize t both_lts.After-condition_size-second)
+      → let one : InBothSize t both_lts.After-condition_size-first = search in
       let s : InBothSize t both_lts.Start = search in
-      Both (both_sides s) one.condition_size.result two.condition-size2.result
+      Both (both_sides s) one.condition_size-first.result two.condition_size-second.result
   both_counted two =
-      let one : InBothSize t both_lts.After-condition-size = search in
+      let one : InBothSize t both_lts.After-condition_size-first = search in
       let s : InBothSize t both_lts.Start = search in
-      both (both_sides s) one.condition_size.ensures.0 two.condition-size2.ensures.0
+      both (both_sides s) one.condition_size-first.ensures.0 two.condition_size-second.ensures.0
 
 pub +both_size_condition_size_spec : {M : Type 1} → statement M
 +both_size_condition_size_spec =
@@ -108,92 +108,92 @@ pub +both_size_condition_size_spec : {M : Type 1} → statement M
     both_lts.spec (both_known t) (at both_size t) both_size.post
     (λ c.
     let s : InBothSize t both_lts.Start = search in
-    record { fits = omega (arith, (text_says.condition_opened _ _ _ s.pre.1.1.0.is).inside, s.good.0.0) })
+    record { fits = omega (arith, (text_says.condition_opened _ _ _ s.requires.1.1.0.is).inside, s.well_formed.0.0) })
     (λ c.
     let s : InBothSize t both_lts.Start = search in
-    (text_says.condition_opened _ _ _ s.pre.1.1.0.is).nested)
+    (text_says.condition_opened _ _ _ s.requires.1.1.0.is).nested)
     (λ c κs.
     let s : InBothSize t both_lts.Start = search in
-    let o = text_says.condition_opened _ _ _ s.pre.1.1.0.is in
-    (text_says.down o s.pre.0, (first_countable (both_sides t s), s.pre.1.1.1)))
+    let o = text_says.condition_opened _ _ _ s.requires.1.1.0.is in
+    (text_says.down o s.requires.0, (first_countable (both_sides t s), s.requires.1.1.1)))
     (λ c.
     let s : InBothSize t both_lts.Start = search in
-    record { fits = omega (arith, (text_says.condition_opened _ _ _ s.pre.1.1.0.is).inside, s.good.0.0) })
+    record { fits = omega (arith, (text_says.condition_opened _ _ _ s.requires.1.1.0.is).inside, s.well_formed.0.0) })
     (λ c.
-    let one : InBothSize t both_lts.After-condition-size = search in
+    let one : InBothSize t both_lts.After-condition_size-first = search in
     let s : InBothSize t both_lts.Start = search in
     let side = first_countable (both_sides t s) in
-    record { fits = omega (arith, (one.condition_size.ensures.0 _ _ side.is).1, side.few) })
+    record { fits = omega (arith, (one.condition_size-first.ensures.0 _ _ side.is).1, side.few) })
     (λ c κs. search rules)
     (λ c.
     let s : InBothSize t both_lts.Start = search in
-    (text_says.condition_opened _ _ _ s.pre.1.1.0.is).nested)
+    (text_says.condition_opened _ _ _ s.requires.1.1.0.is).nested)
     (λ c κs.
-    let noted : InBothSize t both_lts.After-note-size = search in
-    let one : InBothSize t both_lts.After-condition-size = search in
-    let bytes : InBothSize t both_lts.After-shared-slice-known = search in
+    let noted : InBothSize t both_lts.After-note_size = search in
+    let one : InBothSize t both_lts.After-condition_size-first = search in
+    let bytes : InBothSize t both_lts.After-shared_slice_known-1 = search in
     let s : InBothSize t both_lts.Start = search in
-    let m = one.condition_size.ensures in
+    let m = one.condition_size-first.ensures in
     let right = stays_right s.args.text.now (s.args.nest - 1) (s.args.at + 1)
-    (λ i. (bytes.shared-slice-known.given i).fits) m.1 (first_countable (both_sides t s)) m.0 in
-    let o = text_says.condition_opened _ _ _ s.pre.1.1.0.is in (
-      text_says.down o s.pre.0,
+    (λ i. (bytes.shared_slice_known-1.given i).fits) m.1 (first_countable (both_sides t s)) m.0 in
+    let o = text_says.condition_opened _ _ _ s.requires.1.1.0.is in (
+      text_says.down o s.requires.0,
       (
         second_countable (both_sides t s) m.0,
         subst (ConditionSizes s.args.text.now) (sym noted.note_size.ensures) right,
       ),
     ))
     (λ c.
-    let two : InBothSize t both_lts.After-condition-size2 = search in
+    let two : InBothSize t both_lts.After-condition_size-second = search in
     record { fits = omega (arith, (both_counted t two).few) })
     (λ c.
-    let two : InBothSize t both_lts.After-condition-size2 = search in
+    let two : InBothSize t both_lts.After-condition_size-second = search in
     let s : InBothSize t both_lts.Start = search in
     let b = both_counted t two in
-    (told s.pre.1.1.0 b.ends (omega (arith, b.all)), two.condition-size2.ensures.1)))
+    (told s.requires.1.1.0 b.ends (omega (arith, b.all)), two.condition_size-second.ensures.1)))
     (λ t.
     lts.spec (known t) (at condition_size t) condition_size.post
     -- past-nots-requires
-    (λ c κs. let s : InConditionSize t lts.Start = search in (_, (_, s.pre.1.0.is)))
+    (λ c κs. let s : InConditionSize t lts.Start = search in (_, (_, s.requires.1.0.is)))
     (λ c.
-    let p : InConditionSize t lts.After-past-nots = search in
+    let p : InConditionSize t lts.After-past_nots-bare = search in
     (text_says.condition_opened _ _ _ (found t p).is).inside)
     -- Bc
     (λ c.
-    let p : InConditionSize t lts.After-past-nots = search in
+    let p : InConditionSize t lts.After-past_nots-bare = search in
     let s : InConditionSize t lts.Start = search in
-    record { fits = omega (arith, (text_says.bc_at _ _ _ (found t p).is c.if1.true).inside, s.good.0.0) })
+    record { fits = omega (arith, (text_says.bc_at _ _ _ (found t p).is c.if-byte-eq-BC.true).inside, s.well_formed.0.0) })
     (λ c.
-    let p : InConditionSize t lts.After-past-nots = search in
+    let p : InConditionSize t lts.After-past_nots-bare = search in
     let s : InConditionSize t lts.Start = search in
-    record { fits = omega (arith, (text_says.bc_at _ _ _ (found t p).is c.if1.true).inside, s.good.0.0) })
+    record { fits = omega (arith, (text_says.bc_at _ _ _ (found t p).is c.if-byte-eq-BC.true).inside, s.well_formed.0.0) })
     (λ c.
-    let on : InConditionSize t lts.Then1 = search in
-    let p : InConditionSize t lts.After-past-nots = search in
-    omega (arith, (text_says.bc_at _ _ _ (found t p).is on.if1.taken).inside))
+    let on : InConditionSize t lts.Then-byte-eq-BC = search in
+    let p : InConditionSize t lts.After-past_nots-bare = search in
+    omega (arith, (text_says.bc_at _ _ _ (found t p).is on.if-byte-eq-BC.true).inside))
     (λ c κs. search rules)
     (returns t)
     -- And
     (λ c κs.
-    let on : InConditionSize t lts.Then2 = search in
-    let p : InConditionSize t lts.After-past-nots = search in
+    let on : InConditionSize t lts.Then-byte-eq-AND = search in
+    let p : InConditionSize t lts.After-past_nots-bare = search in
     let s : InConditionSize t lts.Start = search in
-    let nest = (p.past_nots.ensures.0 _ _ s.pre.1.0.is).nest in
-    (omega (arith, nest, s.pre.0), (on.if2.taken, (found t p, s.pre.1.1))))
+    let nest = (p.past_nots-bare.ensures.0 _ _ s.requires.1.0.is).nest in
+    (omega (arith, nest, s.requires.0), (on.if-byte-eq-AND.true, (found t p, s.requires.1.1))))
     (λ c.
-    let w : InConditionSize t lts.After-both-size = search in
-    let p : InConditionSize t lts.After-past-nots = search in
-    (nots.counts p.past_nots.ensures.0 w.both_size.ensures.0, w.both_size.ensures.1))
+    let w : InConditionSize t lts.After-both_size = search in
+    let p : InConditionSize t lts.After-past_nots-bare = search in
+    (nots.counts p.past_nots-bare.ensures.0 w.both_size.ensures.0, w.both_size.ensures.1))
     -- Less
     (λ c κs.
-    let no_bc : InConditionSize t lts.Else1 = search in
-    let p : InConditionSize t lts.After-past-nots = search in
+    let no_bc : InConditionSize t lts.Else-byte-eq-BC = search in
+    let p : InConditionSize t lts.After-past_nots-bare = search in
     let s : InConditionSize t lts.Start = search in
-    let bare = p.past_nots.result in
+    let bare = p.past_nots-bare.result in
     let byte = text_says.last_condition s.args.text.now bare.nest bare.at (found t p).is
-    no_bc.if1.left p.past_nots.ensures.1 c.if2.false in
+    no_bc.if-byte-eq-BC.false p.past_nots-bare.ensures.1 c.if-byte-eq-AND.false in
     (byte, found t p))
     (λ c.
-    let p : InConditionSize t lts.After-past-nots = search in
+    let p : InConditionSize t lts.After-past_nots-bare = search in
     let s : InConditionSize t lts.Start = search in
-    (nots.counts p.past_nots.ensures.0 c.less_size.ensures, s.pre.1.1)))
+    (nots.counts p.past_nots-bare.ensures.0 c.less_size.ensures, s.requires.1.1)))

@@ -67,22 +67,22 @@ module _ (t : ℕ) where
     i = s.args.at
 
     -- a constant
-    constant : Begins (get_or text i 0) → ConstantRead text s.args.nest i s.pre.1.part s.pre.1.next
-    constant b = constant_read _ _ _ s.pre.1.is b
+    constant : Begins (get_or text i 0) → ConstantRead text s.args.nest i s.requires.1.part s.requires.1.next
+    constant b = constant_read _ _ _ s.requires.1.is b
 
     constant_told : (b : Begins (get_or text i 0)) {r : PartSize} → r.next ≡ i + (1 + constant_width (get_or text i 0))
         → r.records ≡ 1 → Counts expression_records (expression text s.args.nest i) r
     unfolding expression_records
     constant_told b e f =
         let k = constant b in
-        told s.pre.1 (omega (arith, k.ends)) (f ∙ sym (ap expression_records k.is))
+        told s.requires.1 (omega (arith, k.ends)) (f ∙ sym (ap expression_records k.is))
 
-  returns_2 : InExpressionSize t lts.Need-returns-2
+  returns_2 : InExpressionSize t lts.Need-returns-then-byte-eq-VARIABLE
   unfolding expression_records
   returns_2 c =
       let s : InExpressionSize t lts.Start = search in
-      let k = (text_says.variable_at _ _ _ s.pre.1.is c.if2.true).1 in
-      told s.pre.1 k.ends (sym (ap expression_records k.is))
+      let k = (text_says.variable_at _ _ _ s.requires.1.is c.if-byte-eq-VARIABLE.true).1 in
+      told s.requires.1 k.ends (sym (ap expression_records k.is))
 
 -- ---- Two sides
 
@@ -106,67 +106,67 @@ pub +expression_size_two_sizes_spec : {M : Type 1} → statement M
     close expression_size.measure two_sizes.measure
     (λ t.
     lts.spec (known t) (at expression_size t) expression_size.post
-    (λ c. let s : InExpressionSize t lts.Start = search in (text_says.expression_opened _ _ _ s.pre.1.is).inside)
-    (λ c κs. let s : InExpressionSize t lts.Start = search in (constant t s (inl c.if1.true)).inside)
+    (λ c. let s : InExpressionSize t lts.Start = search in (text_says.expression_opened _ _ _ s.requires.1.is).inside)
+    (λ c κs. let s : InExpressionSize t lts.Start = search in (constant t s (inl c.if-byte-eq-CONSTANT.true)).inside)
     (λ c.
-    let on : InExpressionSize t lts.Then1 = search in
+    let on : InExpressionSize t lts.Then-byte-eq-CONSTANT = search in
     let s : InExpressionSize t lts.Start = search in
-    let r = c.constant-size.ensures in
-    constant_told t s (inl on.if1.taken) r.0 r.1)
+    let r = c.constant_size.ensures in
+    constant_told t s (inl on.if-byte-eq-CONSTANT.true) r.0 r.1)
     (λ c.
     let s : InExpressionSize t lts.Start = search in
-    let k = (text_says.variable_at _ _ _ s.pre.1.is c.if2.true).1 in
-    record { fits = omega (arith, k.inside, s.good.0.0) })
+    let k = (text_says.variable_at _ _ _ s.requires.1.is c.if-byte-eq-VARIABLE.true).1 in
+    record { fits = omega (arith, k.inside, s.well_formed.0.0) })
     (returns_2 t)
-    (λ c. let s : InExpressionSize t lts.Start = search in (text_says.expression_opened _ _ _ s.pre.1.is).nested)
+    (λ c. let s : InExpressionSize t lts.Start = search in (text_says.expression_opened _ _ _ s.requires.1.is).nested)
     (λ c κs.
-    let other : InExpressionSize t lts.Else2 = search in
-    let off : InExpressionSize t lts.Else1 = search in
+    let other : InExpressionSize t lts.Else-byte-eq-VARIABLE = search in
+    let off : InExpressionSize t lts.Else-byte-eq-CONSTANT = search in
     let s : InExpressionSize t lts.Start = search in
-    let o = text_says.expression_opened _ _ _ s.pre.1.is in
-    let byte = last_sum _ _ _ s.pre.1.is off.if1.left other.if2.left c.if3.true in
-    (omega (arith, o.nested, s.pre.0), rw (sum t s byte) at s.pre.1))
+    let o = text_says.expression_opened _ _ _ s.requires.1.is in
+    let byte = last_sum _ _ _ s.requires.1.is off.if-byte-eq-CONSTANT.false other.if-byte-eq-VARIABLE.false c.if-byte-lt-ONE_BYTE_CONSTANT.true in
+    (omega (arith, o.nested, s.requires.0), rw (sum t s byte) at s.requires.1))
     (λ c.
-    let on : InExpressionSize t lts.Then3 = search in
-    let other : InExpressionSize t lts.Else2 = search in
-    let off : InExpressionSize t lts.Else1 = search in
+    let on : InExpressionSize t lts.Then-byte-lt-ONE_BYTE_CONSTANT = search in
+    let other : InExpressionSize t lts.Else-byte-eq-VARIABLE = search in
+    let off : InExpressionSize t lts.Else-byte-eq-CONSTANT = search in
     let s : InExpressionSize t lts.Start = search in
-    let byte = last_sum _ _ _ s.pre.1.is off.if1.left other.if2.left on.if3.taken in
+    let byte = last_sum _ _ _ s.requires.1.is off.if-byte-eq-CONSTANT.false other.if-byte-eq-VARIABLE.false on.if-byte-lt-ONE_BYTE_CONSTANT.true in
     rw (sum t s byte) c.two_sizes.ensures)
     (λ c κs.
-    let other : InExpressionSize t lts.Else2 = search in
+    let other : InExpressionSize t lts.Else-byte-eq-VARIABLE = search in
     let s : InExpressionSize t lts.Start = search in
-    (constant t s (last_constant _ _ _ s.pre.1.is other.if2.left c.if3.false)).inside)
+    (constant t s (last_constant _ _ _ s.requires.1.is other.if-byte-eq-VARIABLE.false c.if-byte-lt-ONE_BYTE_CONSTANT.false)).inside)
     (λ c.
-    let rest : InExpressionSize t lts.Else3 = search in
-    let other : InExpressionSize t lts.Else2 = search in
+    let rest : InExpressionSize t lts.Else-byte-lt-ONE_BYTE_CONSTANT = search in
+    let other : InExpressionSize t lts.Else-byte-eq-VARIABLE = search in
     let s : InExpressionSize t lts.Start = search in
-    let r = c.constant-size2.ensures in
-    constant_told t s (last_constant _ _ _ s.pre.1.is other.if2.left rest.if3.left) r.0 r.1))
+    let r = c.constant_size-2.ensures in
+    constant_told t s (last_constant _ _ _ s.requires.1.is other.if-byte-eq-VARIABLE.false rest.if-byte-lt-ONE_BYTE_CONSTANT.false) r.0 r.1))
     (λ t.
     two_lts.spec (two_known t) (at two_sizes t) two_sizes.post
     (λ c.
     let s : InTwoSizes t two_lts.Start = search in
-    record { fits = omega (arith, (text_says.expression_opened _ _ _ (sides t s).parts.first).inside, s.good.0.0) })
-    (λ c κs. let s : InTwoSizes t two_lts.Start = search in (omega (arith, s.pre.0), first_countable (sides t s)))
+    record { fits = omega (arith, (text_says.expression_opened _ _ _ (sides t s).parts.first).inside, s.well_formed.0.0) })
+    (λ c κs. let s : InTwoSizes t two_lts.Start = search in (omega (arith, s.requires.0), first_countable (sides t s)))
     (λ c κs.
     let s : InTwoSizes t two_lts.Start = search in
-    (omega (arith, s.pre.0), second_countable (sides t s) c.expression_size.ensures))
+    (omega (arith, s.requires.0), second_countable (sides t s) c.expression_size-first.ensures))
     (λ c.
     let s : InTwoSizes t two_lts.Start = search in
-    let one : InTwoSizes t two_lts.After-expression-size = search in
-    let two : InTwoSizes t two_lts.After-expression-size2 = search in
-    let b = both (sides t s) one.expression_size.ensures two.expression-size2.ensures in
+    let one : InTwoSizes t two_lts.After-expression_size-first = search in
+    let two : InTwoSizes t two_lts.After-expression_size-second = search in
+    let b = both (sides t s) one.expression_size-first.ensures two.expression_size-second.ensures in
     record { fits = omega (arith, b.few) })
     (λ c.
     let s : InTwoSizes t two_lts.Start = search in
-    let one : InTwoSizes t two_lts.After-expression-size = search in
-    let two : InTwoSizes t two_lts.After-expression-size2 = search in
-    let b = both (sides t s) one.expression_size.ensures two.expression-size2.ensures in
+    let one : InTwoSizes t two_lts.After-expression_size-first = search in
+    let two : InTwoSizes t two_lts.After-expression_size-second = search in
+    let b = both (sides t s) one.expression_size-first.ensures two.expression_size-second.ensures in
     record { fits = omega (arith, b.few) })
     (λ c.
     let s : InTwoSizes t two_lts.Start = search in
-    let one : InTwoSizes t two_lts.After-expression-size = search in
-    let two : InTwoSizes t two_lts.After-expression-size2 = search in
-    let b = both (sides t s) one.expression_size.ensures two.expression-size2.ensures in
-    told s.pre.1 b.ends b.all))
+    let one : InTwoSizes t two_lts.After-expression_size-first = search in
+    let two : InTwoSizes t two_lts.After-expression_size-second = search in
+    let b = both (sides t s) one.expression_size-first.ensures two.expression_size-second.ensures in
+    told s.requires.1 b.ends b.all))

@@ -15,17 +15,17 @@ known_size_spec =
     (λ c. search rules)
     -- returns
     (λ c.
-    let k : tie.After-look-up = search in
-    let some : tie.Then1 = search in
+    let k : tie.After-look_up-known = search in
+    let some : tie.Then-known-ne0 = search in
     let s : tie.Start = search in (
       λ b n read.
-          let right = known s.args.text.now s.pre.1 s.args.at s.args.nest k.look_up.ensures
-          some.if1.taken b n read in
+          let right = known s.args.text.now s.requires.1 s.args.at s.args.nest k.look_up-known.ensures
+          some.if-known-ne0.true b n read in
           omega (arith, right),
-      s.pre.1,
+      s.requires.1,
     ))
     (λ c κs. search rules)
     -- returns-2
     (λ c.
-    let m : tie.After-condition-size = search in
-    (size_told m.condition_size.ensures.0, m.condition_size.ensures.1)))
+    let m : tie.After-condition_size-part = search in
+    (size_told m.condition_size-part.ensures.0, m.condition_size-part.ensures.1)))

@@ -29,7 +29,7 @@ compared : (s : tie.Start)
     (expression s.args.text.now (s.args.nest - 1)) Less s.requires.1.part s.requires.1.next
 compared s = text_says.less_at s.args.text.now s.args.nest s.args.at s.requires.1.is s.requires.0
 
-two_sizes_requires : tie.Need-two-sizes-requires
+two_sizes_requires : tie.Need-two_sizes-requires
 unfolding expression_records condition_records
 two_sizes_requires c κs =
     let s : tie.Start = search in
@@ -38,7 +38,7 @@ two_sizes_requires c κs =
       part = Plus p.one p.two;
       next = _;
       is = less_read _ _ _ p;
-      few = omega (arith, s.pre.1.few, ap (size s) p.is);
+      few = omega (arith, s.requires.1.few, ap (size s) p.is);
     }
 
 returns : tie.Need-returns
@@ -47,7 +47,7 @@ returns c =
     let s : tie.Start = search in
     let p = compared s in
     let r = c.two_sizes.ensures _ _ (less_read _ _ _ p) in
-    told s.pre.1 r.0 (r.1 ∙ sym (ap (size s) p.is))
+    told s.requires.1 r.0 (r.1 ∙ sym (ap (size s) p.is))
 
 nested : (s : tie.Start) → 1 ≤ s.args.nest
 nested s = (text_says.condition_opened s.args.text.now s.args.nest s.args.at s.requires.1.is).nested

@@ -11,5 +11,5 @@ look_up_spec =
     (λ c. search rules)
     (λ c. search rules)
     (λ c κs. search rules)
-    (λ c. let e : tie.After-wide = search in found _ _ e.wide.ensures c.if1.true)
-    (λ c. let e : tie.After-wide = search in missing _ _ e.wide.ensures c.if1.false))
+    (λ c. let e : tie.After-wide-entry = search in found _ _ e.wide-entry.ensures c.if-entry-at.true)
+    (λ c. let e : tie.After-wide-entry = search in missing _ _ e.wide-entry.ensures c.if-entry-at.false))

@@ -8,40 +8,40 @@ use Rattle.compile_sizes.proofs.Nots.{one_passed}
 use Rattle.compile_sizes.proofs.past_nots.Statement.{statement}
 use Rattle.compile_sizes.proofs.past_nots.Tie as tie
 
-abbrev invariant-loop : tie.invariant-loop
-invariant-loop text start deepest under at₀ nest₀ flag₀ at nest flag =
+abbrev invariant-loop-at : tie.invariant-loop-at
+invariant-loop-at text start deepest under at₀ nest₀ flag₀ at nest flag =
     Behind text deepest under (condition text deepest start) (record { at = at; nest = nest; flag = flag })
 
-abbrev decreases-loop : tie.decreases-loop
-decreases-loop text start deepest under at₀ nest₀ flag₀ at nest flag = nest
+abbrev decreases-loop-at : tie.decreases-loop-at
+decreases-loop-at text start deepest under at₀ nest₀ flag₀ at nest flag = nest
 
 -- at every turn a condition is read
-opened : (turn : tie.At-loop invariant-loop decreases-loop) → let s : tie.Start invariant-loop decreases-loop = search in
-    Opened s.args.text.now turn.loop.nest turn.loop.at
+opened : (turn : tie.At-loop-at invariant-loop-at decreases-loop-at) → let s : tie.Start invariant-loop-at decreases-loop-at = search in
+    Opened s.args.text.now turn.loop-at.nest turn.loop-at.at
 opened turn =
-    let s : tie.Start invariant-loop decreases-loop = search in
-    condition_opened _ _ _ (turn.loop.invariant _ _ s.pre.1.1).read
+    let s : tie.Start invariant-loop-at decreases-loop-at = search in
+    condition_opened _ _ _ (turn.loop-at.invariant _ _ s.requires.1.1).read
 
 pub past_nots_spec : {M : Type 1} → statement M
 past_nots_spec =
     tie.close
     (tie.spec
-    invariant-loop
-    decreases-loop
+    invariant-loop-at
+    decreases-loop-at
     -- loop-holds
     (λ c b n e. record { part = b; read = e; same = refl; nest = omega arith })
-    (λ c. let turn : tie.At-loop invariant-loop decreases-loop = search in (opened turn).inside)
+    (λ c. let turn : tie.At-loop-at invariant-loop-at decreases-loop-at = search in (opened turn).inside)
     -- add-at, sub-nest
     (λ c.
-    let turn : tie.At-loop invariant-loop decreases-loop = search in
-    let s : tie.Start invariant-loop decreases-loop = search in
-    record { fits = omega (arith, (opened turn).inside, s.good.0.0) })
-    (λ c. let turn : tie.At-loop invariant-loop decreases-loop = search in (opened turn).nested)
+    let turn : tie.At-loop-at invariant-loop-at decreases-loop-at = search in
+    let s : tie.Start invariant-loop-at decreases-loop-at = search in
+    record { fits = omega (arith, (opened turn).inside, s.well_formed.0.0) })
+    (λ c. let turn : tie.At-loop-at invariant-loop-at decreases-loop-at = search in (opened turn).nested)
     -- loop-less, loop-again
-    (λ c. let turn : tie.At-loop invariant-loop decreases-loop = search in omega (arith, (opened turn).nested))
+    (λ c. let turn : tie.At-loop-at invariant-loop-at decreases-loop-at = search in omega (arith, (opened turn).nested))
     (λ c.
-    let turn : tie.At-loop invariant-loop decreases-loop = search in
-    let going : tie.Then1 invariant-loop decreases-loop = search in
-    one_passed turn.loop.inv going.if1.taken)
+    let turn : tie.At-loop-at invariant-loop-at decreases-loop-at = search in
+    let going : tie.In-loop-at invariant-loop-at decreases-loop-at = search in
+    one_passed turn.loop-at.invariant going.loop-at-test.true)
     -- returns
-    (λ c. let turn : tie.At-loop invariant-loop decreases-loop = search in (turn.loop.inv, c.if1.false)))
+    (λ c. let turn : tie.At-loop-at invariant-loop-at decreases-loop-at = search in (turn.loop-at.invariant, c.loop-at-test.false)))

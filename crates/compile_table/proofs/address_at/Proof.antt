@@ -10,37 +10,37 @@ use Rattle.compile_table.specs.Sights.{address_at}
 use Rattle.compile_table.proofs.address_at.Statement.{statement}
 use Rattle.compile_table.proofs.address_at.Tie as tie
 
-of_load : tie.Need-returns
+of_load : tie.Need-returns-then-byte-eq-MLOAD
 unfolding address_at
 of_load c =
-    let on : tie.Then1 = search in
-    let b : tie.After-byte-at = search in
+    let on : tie.Then-byte-eq-MLOAD = search in
+    let b : tie.After-byte_at-byte = search in
     let s : tie.Start = search in
     ap address c.name_at.ensures
-    ∙ simp (eq-eqb (get_or s.args.code.now (5 * s.args.i) 0) 0x51 (sym b.byte_at.ensures ∙ on.if1.taken))
+    ∙ simp (eq-eqb (get_or s.args.code.now (5 * s.args.i) 0) 0x51 (sym b.byte_at-byte.ensures ∙ on.if-byte-eq-MLOAD.true))
 
-of_store : tie.Need-returns-2
+of_store : tie.Need-returns-then-byte-eq-MSTORE
 unfolding address_at
 of_store c =
-    let on : tie.Then2 = search in
-    let b : tie.After-byte-at = search in
+    let on : tie.Then-byte-eq-MSTORE = search in
+    let b : tie.After-byte_at-byte = search in
     let s : tie.Start = search in
-    ap address c.name-at2.ensures
+    ap address c.name_at-then-byte-eq-MSTORE.ensures
     ∙ simp (
-      eq-eqb (get_or s.args.code.now (5 * s.args.i) 0) 0x53 (sym b.byte_at.ensures ∙ on.if2.taken),
+      eq-eqb (get_or s.args.code.now (5 * s.args.i) 0) 0x53 (sym b.byte_at-byte.ensures ∙ on.if-byte-eq-MSTORE.true),
       or-true,
     )
 
-of_another : tie.Need-returns-3
+of_another : tie.Need-returns
 unfolding address_at
 of_another c =
-    let off : tie.Else1 = search in
-    let b : tie.After-byte-at = search in
+    let off : tie.Else-byte-eq-MLOAD = search in
+    let b : tie.After-byte_at-byte = search in
     let s : tie.Start = search in
     let byte = get_or s.args.code.now (5 * s.args.i) 0 in
     simp (
-      ne_eqb byte 0x51 (λ e. off.if1.left (b.byte_at.ensures ∙ e)),
-      ne_eqb byte 0x53 (λ e. c.if2.false (b.byte_at.ensures ∙ e)),
+      ne_eqb byte 0x51 (λ e. off.if-byte-eq-MLOAD.false (b.byte_at-byte.ensures ∙ e)),
+      ne_eqb byte 0x53 (λ e. c.if-byte-eq-MSTORE.false (b.byte_at-byte.ensures ∙ e)),
     )
 
 pub address_at_spec : {M : Type 1} → statement M

@@ -10,5 +10,5 @@ address_of_spec =
     tie.close
     (tie.spec
     (λ c. search rules)
-    (λ c. let s : tie.Start = search in omega (arith, c.shared-slice-known.given s.args.variable.0))
-    (λ c. let s : tie.Start = search in (refl, (c.shared-slice-known.given s.args.variable.0).fits)))
+    (λ c. let s : tie.Start = search in omega (arith, c.shared_slice_known-1.given s.args.variable.0))
+    (λ c. let s : tie.Start = search in (refl, (c.shared_slice_known-1.given s.args.variable.0).fits)))

@@ -13,13 +13,13 @@ pub lowest_spec : {M : Type 1} → statement M
 lowest_spec =
     tie.close
     (tie.spec
-    (λ c. sym (ap lowest c.if1.true))
+    (λ c. sym (ap lowest c.if-n-eq-WORD_BITS.true))
     (λ c. search rules)
     (λ c.
-    let off : tie.Else1 = search in
+    let off : tie.Else-n-eq-WORD_BITS = search in
     let s : tie.Start = search in
-    omega (arith, one_shifted s.args.n (omega (arith, s.pre, off.if1.left)), pow_pos s.args.n))
+    omega (arith, one_shifted s.args.n (omega (arith, s.requires, off.if-n-eq-WORD_BITS.false)), pow_pos s.args.n))
     (λ c.
-    let off : tie.Else1 = search in
+    let off : tie.Else-n-eq-WORD_BITS = search in
     let s : tie.Start = search in
-    ap (λ (x : ℕ). x - 1) (one_shifted s.args.n (omega (arith, s.pre, off.if1.left)))))
+    ap (λ (x : ℕ). x - 1) (one_shifted s.args.n (omega (arith, s.requires, off.if-n-eq-WORD_BITS.false)))))

@@ -7,47 +7,47 @@ use Rattle.compile_table.proofs.Marking.{Seen, seen_start, seen_zero, seen_addre
 use Rattle.compile_table.proofs.mark_all.Statement.{statement}
 use Rattle.compile_table.proofs.mark_all.Tie as tie
 
-abbrev invariant-loop : tie.invariant-loop
-invariant-loop table word₀ n₀ v₀ word n v = Seen table word n v
+abbrev invariant-loop-v : tie.invariant-loop-v
+invariant-loop-v table word₀ n₀ v₀ word n v = Seen table word n v
 
-abbrev decreases-loop : tie.decreases-loop
-decreases-loop table word₀ n₀ v₀ word n v = length table - v
+abbrev decreases-loop-v : tie.decreases-loop-v
+decreases-loop-v table word₀ n₀ v₀ word n v = length table - v
 
 pub mark_all_spec : {M : Type 1} → statement M
 mark_all_spec =
     tie.close
     (tie.spec
-    invariant-loop
-    decreases-loop
-    (λ c. let s : tie.Start invariant-loop decreases-loop = search in seen_start s.args.table.now)
+    invariant-loop-v
+    decreases-loop-v
+    (λ c. let s : tie.Start invariant-loop-v decreases-loop-v = search in seen_start s.args.table.now)
     (λ c. search rules)
     (λ c.
-    let turn : tie.At-loop invariant-loop decreases-loop = search in
-    omega (arith, c.shared-slice-known.given turn.loop.v))
+    let turn : tie.At-loop-v invariant-loop-v decreases-loop-v = search in
+    omega (arith, c.shared_slice_known-1.given turn.loop-v.v))
     (λ c. search rules)
     (λ c.
-    let turn : tie.At-loop invariant-loop decreases-loop = search in
-    omega (arith, turn.loop.inv.few))
+    let turn : tie.At-loop-v invariant-loop-v decreases-loop-v = search in
+    omega (arith, turn.loop-v.invariant.few))
     (λ c. search rules)
     (λ c. search rules)
     (λ c. search rules)
     (λ c.
-    let other : tie.Then1 invariant-loop decreases-loop = search in
-    let going : tie.In-loop invariant-loop decreases-loop = search in
-    let turn : tie.At-loop invariant-loop decreases-loop = search in
-    seen_address turn.loop.inv going.loop-test.taken other.if1.taken
-    (omega (arith, c.if2.true)))
+    let other : tie.Then-a-ne0 invariant-loop-v decreases-loop-v = search in
+    let going : tie.In-loop-v invariant-loop-v decreases-loop-v = search in
+    let turn : tie.At-loop-v invariant-loop-v decreases-loop-v = search in
+    seen_address turn.loop-v.invariant going.loop-v-test.true other.if-a-ne0.true
+    (omega (arith, c.if-a-le-WORD_BITS.true)))
     (λ c. search rules)
     (λ c.
-    let other : tie.Then1 invariant-loop decreases-loop = search in
-    let going : tie.In-loop invariant-loop decreases-loop = search in
-    let turn : tie.At-loop invariant-loop decreases-loop = search in
-    seen_above turn.loop.inv going.loop-test.taken other.if1.taken c.if2.false)
+    let other : tie.Then-a-ne0 invariant-loop-v decreases-loop-v = search in
+    let going : tie.In-loop-v invariant-loop-v decreases-loop-v = search in
+    let turn : tie.At-loop-v invariant-loop-v decreases-loop-v = search in
+    seen_above turn.loop-v.invariant going.loop-v-test.true other.if-a-ne0.true c.if-a-le-WORD_BITS.false)
     (λ c. search rules)
     (λ c.
-    let going : tie.In-loop invariant-loop decreases-loop = search in
-    let turn : tie.At-loop invariant-loop decreases-loop = search in
-    seen_zero turn.loop.inv going.loop-test.taken c.if1.false)
+    let going : tie.In-loop-v invariant-loop-v decreases-loop-v = search in
+    let turn : tie.At-loop-v invariant-loop-v decreases-loop-v = search in
+    seen_zero turn.loop-v.invariant going.loop-v-test.true c.if-a-ne0.false)
     (λ c.
-    let turn : tie.At-loop invariant-loop decreases-loop = search in
-    seen_all turn.loop.inv c.loop-test.false))
+    let turn : tie.At-loop-v invariant-loop-v decreases-loop-v = search in
+    seen_all turn.loop-v.invariant c.loop-v-test.false))

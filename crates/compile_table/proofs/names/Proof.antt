@@ -37,13 +37,13 @@ names_spec =
     (λ c κs. search rules)
     (λ c.
     let l : tie.After-lowest = search in
-    let m : tie.After-mark-all = search in
+    let m : tie.After-mark_all-marked = search in
     let s : tie.Start = search in
-    passes _ s.pre m.mark-all.ensures.0 m.mark-all.ensures.1
-    (omega (arith, c.if1.true, l.lowest.ensures)))
+    passes _ s.requires m.mark_all-marked.ensures.0 m.mark_all-marked.ensures.1
+    (omega (arith, c.if-marked-lowest.true, l.lowest.ensures)))
     (λ c.
     let l : tie.After-lowest = search in
-    let m : tie.After-mark-all = search in
+    let m : tie.After-mark_all-marked = search in
     let s : tie.Start = search in
-    fails _ s.pre m.mark-all.ensures.0 m.mark-all.ensures.1
-    (λ e. omega (arith, e, c.if1.false, l.lowest.ensures))))
+    fails _ s.requires m.mark_all-marked.ensures.0 m.mark_all-marked.ensures.1
+    (λ e. omega (arith, e, c.if-marked-lowest.false, l.lowest.ensures))))

@@ -7,5 +7,5 @@ pub has_name_spec : {M : Type 1} → statement M
 has_name_spec =
     tie.close
     (tie.spec
-    (λ c. let s : tie.Start = search in simp (eq-eqb s.args.number 1 c.if1.true))
-    (λ c. let s : tie.Start = search in simp (ne_eqb s.args.number 1 c.if1.false)))
+    (λ c. let s : tie.Start = search in simp (eq-eqb s.args.number 1 c.if-number-eq1.true))
+    (λ c. let s : tie.Start = search in simp (ne_eqb s.args.number 1 c.if-number-eq1.false)))

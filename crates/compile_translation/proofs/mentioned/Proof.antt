@@ -16,23 +16,23 @@ told : {b : ℕ} {named : Bool} (code : List ℕ) (i : ℕ) → named ≡ has_na
     → named ≡ has_name (get_or code (5 * i) 0 - 0x40)
 told code i e f = e ∙ ap (λ b. has_name (b - 0x40)) f
 
-gives_name : tie.Need-returns
+gives_name : tie.Need-returns-then-has_name
 unfolding mention_at
 gives_name c =
-    let on : tie.Then1 = search in
-    let h : tie.After-has-name = search in
-    let b : tie.After-byte-at = search in
+    let on : tie.Then-has_name = search in
+    let h : tie.After-has_name = search in
+    let b : tie.After-byte_at = search in
     let s : tie.Start = search in
     ap (λ v. Of (variable v)) c.name_at.ensures
-    ∙ simp (sym (told s.args.code.now s.args.i h.has_name.ensures b.byte_at.ensures) ∙ on.if1.taken)
+    ∙ simp (sym (told s.args.code.now s.args.i h.has_name.ensures b.byte_at.ensures) ∙ on.if-has_name.true)
 
-gives_none : tie.Need-returns-2
+gives_none : tie.Need-returns
 unfolding mention_at
 gives_none c =
-    let h : tie.After-has-name = search in
-    let b : tie.After-byte-at = search in
+    let h : tie.After-has_name = search in
+    let b : tie.After-byte_at = search in
     let s : tie.Start = search in
-    simp (sym (told s.args.code.now s.args.i h.has_name.ensures b.byte_at.ensures) ∙ c.if1.false)
+    simp (sym (told s.args.code.now s.args.i h.has_name.ensures b.byte_at.ensures) ∙ c.if-has_name.false)
 
 pub mentioned_spec : {M : Type 1} → statement M
 mentioned_spec =

@@ -9,24 +9,24 @@ use Rattle.compile_translation.specs.Steps.{renamed_front}
 use Rattle.compile_translation.proofs.rename_front.Statement.{statement}
 use Rattle.compile_translation.proofs.rename_front.Tie as tie
 
-with_name : tie.Need-returns
+with_name : tie.Need-returns-then-has_name
 unfolding renamed_front
 with_name c =
-    let on : tie.Then1 = search in
-    let h : tie.After-has-name = search in
-    simp (c.rename.ensures.0, sym h.has_name.ensures ∙ on.if1.taken)
+    let on : tie.Then-has_name = search in
+    let h : tie.After-has_name = search in
+    simp (c.rename-name.ensures.0, sym h.has_name.ensures ∙ on.if-has_name.true)
 
-without : tie.Need-returns-2
+without : tie.Need-returns-else-has_name
 unfolding renamed_front
-without c = let h : tie.After-has-name = search in simp (sym h.has_name.ensures ∙ c.if1.false)
+without c = let h : tie.After-has_name = search in simp (sym h.has_name.ensures ∙ c.if-has_name.false)
 
 -- The name is inside the names.
-inside : tie.Need-rename-requires
+inside : tie.Need-rename-name-requires
 inside c κs =
-    let on : tie.Then1 = search in
-    let h : tie.After-has-name = search in
+    let on : tie.Then-has_name = search in
+    let h : tie.After-has_name = search in
     let s : tie.Start = search in
-    let named = s.pre.inside (sym h.has_name.ensures ∙ on.if1.taken) in
+    let named = s.requires.inside (sym h.has_name.ensures ∙ on.if-has_name.true) in
     let byte = s.args.to + (get_or s.args.code.now 0 0 - s.args.from) in
     omega (arith, get_or-set_other s.args.code.now 0 1 byte 0 (λ e. omega arith), named)
 
@@ -40,7 +40,7 @@ rename_front_spec =
     (λ c. search rules)
     (λ c κs. search rules)
     (λ c. search rules)
-    (λ c. omega (arith, c.slice-known3.given 1))
+    (λ c. omega (arith, c.slice_known-then-has_name-1.given 1))
     inside
     (λ c. search rules)
     (λ c. search rules)

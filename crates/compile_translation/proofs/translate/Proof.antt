@@ -10,14 +10,14 @@ translate_spec =
     (tie.spec
     (λ c κs. search rules)
     (λ c κs.
-    let n : tie.After-number-variables = search in
+    let n : tie.After-number_variables-n = search in
     let s : tie.Start = search in
-    let stands = s.pre.1.1.1 in
-    let x = n.number-variables.ensures _ _ stands in
+    let stands = s.requires.1.1.1 in
+    let x = n.number_variables-n.ensures _ _ stands in
     (table_renames x, still_holds x stands))
     (λ c. search rules)
     (λ c. search rules)
     (λ c. λ P lent stands.
-    let r : tie.After-rename-records = search in
-    let n : tie.After-number-variables = search in
-    translated (n.number-variables.ensures P lent stands) stands r.rename-records.ensures))
+    let r : tie.After-rename_records = search in
+    let n : tie.After-number_variables-n = search in
+    translated (n.number_variables-n.ensures P lent stands) stands r.rename_records.ensures))

@@ -11,45 +11,45 @@ use Rattle.inspection_visit.proofs.follow.Statement.{statement}
 use Rattle.inspection_visit.proofs.follow.Tie as tie
 
 -- the position has its place among the labels
-inside : (t : tie.After-target) → let s : tie.Start = search in
-    t.target.given.0.0 < length s.args.labels.now
+inside : (t : tie.In-To) → let s : tie.Start = search in
+    t.in-To.to < length s.args.labels.now
 inside t =
     let s : tie.Start = search in
-    subst (Within (length s.args.labels.now)) t.target.given.1 s.pre.1
+    subst (Within (length s.args.labels.now)) t.in-To.is s.requires.1
 
-before : tie.Need-returns
+before : tie.Need-returns-then-old-label
 before c =
-    let t : tie.After-target = search in
-    followed_at t.target.given.1 (again _ c.if1.true)
+    let t : tie.In-To = search in
+    followed_at t.in-To.is (again _ c.if-old-label.true)
 
-clash : tie.Need-returns-2
+clash : tie.Need-returns-then-old-ne0
 clash c =
-    let t : tie.After-target = search in
-    let old : tie.Else1 = search in
-    followed_at t.target.given.1 (other _ c.if2.true old.if1.left)
+    let t : tie.In-To = search in
+    let old : tie.Else-old-label = search in
+    followed_at t.in-To.is (other _ c.if-old-ne0.true old.if-old-label.false)
 
-outside : tie.Need-returns-3
-outside c = followed_at c.enum_told.given.1 astray
+outside : tie.Need-returns-in-Astray
+outside c = followed_at c.in-Astray.is astray
 
-found : tie.Need-returns-4
+found : tie.Need-returns-else-old-ne0
 found c =
-    let t : tie.After-target = search in
-    followed_at t.target.given.1 (new _ c.if2.false)
+    let t : tie.In-To = search in
+    followed_at t.in-To.is (new _ c.if-old-ne0.false)
 
 -- it can be listed
-small : tie.Need-overflow-cast-order
+small : tie.Need-overflow_cast-order
 small c =
-    let t : tie.After-target = search in
+    let t : tie.In-To = search in
     let s : tie.Start = search in
-    omega (arith, inside t, s.pre.0.small)
+    omega (arith, inside t, s.requires.0.small)
 
 -- and the list has a place for it
-room : tie.Need-slice-write-order
+room : tie.Need-bounds-order-found
 room c =
-    let t : tie.After-target = search in
+    let t : tie.In-To = search in
     let s : tie.Start = search in
-    let p = s.pre.0 in
-    omega (arith, p.wide, p.spare, some_zero s.args.labels.now _ (inside t) c.if2.false)
+    let p = s.requires.0 in
+    omega (arith, p.wide, p.spare, some_zero s.args.labels.now _ (inside t) c.if-old-ne0.false)
 
 pub follow_spec : {M : Type 1} → statement M
 follow_spec =
@@ -57,10 +57,10 @@ follow_spec =
     (tie.spec
     (λ c. search rules)
     (λ c. search rules)
-    (λ c. let t : tie.After-target = search in inside t)
+    (λ c. let t : tie.In-To = search in inside t)
     before
     clash
-    (λ c. let t : tie.After-target = search in inside t)
+    (λ c. let t : tie.In-To = search in inside t)
     small
     (λ c. search rules)
     room

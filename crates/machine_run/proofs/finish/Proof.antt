@@ -47,22 +47,22 @@ record Loops (first : Machine) (D last : ℕ) (code : List ℕ) (memory₀ : Lis
   long : length memory ≡ length memory₀
   going : (g : Given D last code memory₀) → Going (its_course first D last code memory₀ limit g) machine memory
 
-abbrev invariant-loop : tie.invariant-loop
-invariant-loop code memory₀ depth last limit first memory machine =
+abbrev invariant-loop-machine : tie.invariant-loop-machine
+invariant-loop-machine code memory₀ depth last limit first memory machine =
     Loops first depth last code memory₀ limit memory machine
 
-abbrev decreases-loop : tie.decreases-loop
-decreases-loop code memory₀ depth last limit first memory machine = limit - machine.count
+abbrev decreases-loop-machine : tie.decreases-loop-machine
+decreases-loop-machine code memory₀ depth last limit first memory machine = limit - machine.count
 
 -- the records that the caller had
-abbrev had : (s : tie.Start invariant-loop decreases-loop)
+abbrev had : (s : tie.Start invariant-loop-machine decreases-loop-machine)
     → Given s.args.depth s.args.last s.args.code.now s.args.memory.now
 had s = let p = s.requires.1 in record { n = p.n; P = p.records; cells_are = p.cells_are; given = p.given }
 
-begins : tie.Need-loop-init invariant-loop decreases-loop
+begins : tie.Need-loop-machine-init invariant-loop-machine decreases-loop-machine
 begins c =
-    let s : tie.Start invariant-loop decreases-loop = search in
-    let p = s.pre.0 in
+    let s : tie.Start invariant-loop-machine decreases-loop-machine = search in
+    let p = s.requires.0 in
     record {
       long = refl;
       going =
@@ -71,47 +71,47 @@ begins c =
 
 -- ---- No step: done, or spent
 
-done : tie.Need-returns invariant-loop decreases-loop
+done : tie.Need-returns-then-machine-last invariant-loop-machine decreases-loop-machine
 done c =
-    let turn : tie.At-loop invariant-loop decreases-loop = search in
-    let s : tie.Start invariant-loop decreases-loop = search in
-    let i = turn.loop.inv in (
-      λ n P e g. ends_done (i.going (record { n = n; P = P; cells_are = e; given = g })) c.if1.true,
+    let turn : tie.At-loop-machine invariant-loop-machine decreases-loop-machine = search in
+    let s : tie.Start invariant-loop-machine decreases-loop-machine = search in
+    let i = turn.loop-machine.invariant in (
+      λ n P e g. ends_done (i.going (record { n = n; P = P; cells_are = e; given = g })) c.if-machine-last.true,
       (i.going (had s)).used,
     )
 
-spent : tie.Need-returns-2 invariant-loop decreases-loop
+spent : tie.Need-returns-then-machine-limit invariant-loop-machine decreases-loop-machine
 spent c =
-    let not_done : tie.Else1 invariant-loop decreases-loop = search in
-    let turn : tie.At-loop invariant-loop decreases-loop = search in
-    let s : tie.Start invariant-loop decreases-loop = search in
-    let i = turn.loop.inv in (
+    let not_done : tie.Else-machine-last invariant-loop-machine decreases-loop-machine = search in
+    let turn : tie.At-loop-machine invariant-loop-machine decreases-loop-machine = search in
+    let s : tie.Start invariant-loop-machine decreases-loop-machine = search in
+    let i = turn.loop-machine.invariant in (
       λ n P e g.
-          ends_spent (i.going (record { n = n; P = P; cells_are = e; given = g })) not_done.if1.left
-          c.if2.true,
+          ends_spent (i.going (record { n = n; P = P; cells_are = e; given = g })) not_done.if-machine-last.false
+          c.if-machine-limit.true,
       (i.going (had s)).used,
     )
 
 -- ---- A step
 
-step_requires : tie.Need-step-requires invariant-loop decreases-loop
+step_requires : tie.Need-step-requires invariant-loop-machine decreases-loop-machine
 step_requires c κs =
-    let not_spent : tie.Else2 invariant-loop decreases-loop = search in
-    let not_done : tie.Else1 invariant-loop decreases-loop = search in
-    let turn : tie.At-loop invariant-loop decreases-loop = search in
-    let s : tie.Start invariant-loop decreases-loop = search in
-    let l = turn.loop in
-    let p = s.pre.1 in
-    let g = l.inv.going (had s) in
+    let not_spent : tie.Else-machine-limit invariant-loop-machine decreases-loop-machine = search in
+    let not_done : tie.Else-machine-last invariant-loop-machine decreases-loop-machine = search in
+    let turn : tie.At-loop-machine invariant-loop-machine decreases-loop-machine = search in
+    let s : tie.Start invariant-loop-machine decreases-loop-machine = search in
+    let l = turn.loop-machine in
+    let p = s.requires.1 in
+    let g = l.invariant.going (had s) in
     let placed : l.machine.position ≤ s.args.last = g.placed in
     let used : l.machine.count ≤ s.args.limit = g.used in (
       record {
-        long = omega (arith, l.inv.long, p.cells_are);
-        few = s.pre.0.few;
-        placed = omega (arith, not_done.if1.left);
+        long = omega (arith, l.invariant.long, p.cells_are);
+        few = s.requires.0.few;
+        placed = omega (arith, not_done.if-machine-last.false);
         held = g.held;
         marked = g.marked;
-        room = omega (arith, not_spent.if2.left, s.fits.limit.fits);
+        room = omega (arith, not_spent.if-machine-limit.false, s.ranges.limit.fits);
       },
       record {
         n = p.n;
@@ -119,52 +119,52 @@ step_requires c κs =
         given = p.given;
         small = p.small;
         whole = p.whole;
-        cells_are = l.inv.long ∙ p.cells_are;
+        cells_are = l.invariant.long ∙ p.cells_are;
       },
     )
 
-less : tie.Need-loop-smaller invariant-loop decreases-loop
+less : tie.Need-loop-machine-smaller invariant-loop-machine decreases-loop-machine
 less c =
-    let on : tie.After-next invariant-loop decreases-loop = search in
-    let t : tie.After-step invariant-loop decreases-loop = search in
-    let not_spent : tie.Else2 invariant-loop decreases-loop = search in
-    let not_done : tie.Else1 invariant-loop decreases-loop = search in
-    let turn : tie.At-loop invariant-loop decreases-loop = search in
-    let s : tie.Start invariant-loop decreases-loop = search in
-    let i = turn.loop.inv in
+    let on : tie.In-Next invariant-loop-machine decreases-loop-machine = search in
+    let t : tie.After-step invariant-loop-machine decreases-loop-machine = search in
+    let not_spent : tie.Else-machine-limit invariant-loop-machine decreases-loop-machine = search in
+    let not_done : tie.Else-machine-last invariant-loop-machine decreases-loop-machine = search in
+    let turn : tie.At-loop-machine invariant-loop-machine decreases-loop-machine = search in
+    let s : tie.Start invariant-loop-machine decreases-loop-machine = search in
+    let i = turn.loop-machine.invariant in
     let g = had s in
-    (going_on (i.going g) not_done.if1.left not_spent.if2.left on.next.given.1
+    (going_on (i.going g) not_done.if-machine-last.false not_spent.if-machine-limit.false on.in-Next.is
     (λ r. t.step.ensures g.n r (i.long ∙ g.cells_are))).1
 
-again : tie.Need-loop-preserved invariant-loop decreases-loop
+again : tie.Need-loop-machine-preserved invariant-loop-machine decreases-loop-machine
 again c =
-    let on : tie.After-next invariant-loop decreases-loop = search in
-    let t : tie.After-step invariant-loop decreases-loop = search in
-    let not_spent : tie.Else2 invariant-loop decreases-loop = search in
-    let not_done : tie.Else1 invariant-loop decreases-loop = search in
-    let turn : tie.At-loop invariant-loop decreases-loop = search in
-    let i = turn.loop.inv in
+    let on : tie.In-Next invariant-loop-machine decreases-loop-machine = search in
+    let t : tie.After-step invariant-loop-machine decreases-loop-machine = search in
+    let not_spent : tie.Else-machine-limit invariant-loop-machine decreases-loop-machine = search in
+    let not_done : tie.Else-machine-last invariant-loop-machine decreases-loop-machine = search in
+    let turn : tie.At-loop-machine invariant-loop-machine decreases-loop-machine = search in
+    let i = turn.loop-machine.invariant in
     record {
       long = t.step.kept.1.1.0 ∙ i.long;
       going =
-          λ g. (going_on (i.going g) not_done.if1.left not_spent.if2.left on.next.given.1
+          λ g. (going_on (i.going g) not_done.if-machine-last.false not_spent.if-machine-limit.false on.in-Next.is
           (λ r. t.step.ensures g.n r (i.long ∙ g.cells_are))).0;
     }
 
-ended : tie.Need-returns-3 invariant-loop decreases-loop
+ended : tie.Need-returns-in-Ended invariant-loop-machine decreases-loop-machine
 ended c =
-    let end : tie.After-end invariant-loop decreases-loop = search in
-    let t : tie.After-step invariant-loop decreases-loop = search in
-    let not_spent : tie.Else2 invariant-loop decreases-loop = search in
-    let not_done : tie.Else1 invariant-loop decreases-loop = search in
-    let turn : tie.At-loop invariant-loop decreases-loop = search in
-    let s : tie.Start invariant-loop decreases-loop = search in
-    let i = turn.loop.inv in
+    let end : tie.In-Ended invariant-loop-machine decreases-loop-machine = search in
+    let t : tie.After-step invariant-loop-machine decreases-loop-machine = search in
+    let not_spent : tie.Else-machine-limit invariant-loop-machine decreases-loop-machine = search in
+    let not_done : tie.Else-machine-last invariant-loop-machine decreases-loop-machine = search in
+    let turn : tie.At-loop-machine invariant-loop-machine decreases-loop-machine = search in
+    let s : tie.Start invariant-loop-machine decreases-loop-machine = search in
+    let i = turn.loop-machine.invariant in
     let h = had s in (
       λ n P e g.
-          (ends_by (i.going (record { n = n; P = P; cells_are = e; given = g })) not_done.if1.left
-          not_spent.if2.left end.end.given.1 (λ r. t.step.ensures n r (i.long ∙ e))).0,
-      (ends_by (i.going h) not_done.if1.left not_spent.if2.left end.end.given.1
+          (ends_by (i.going (record { n = n; P = P; cells_are = e; given = g })) not_done.if-machine-last.false
+          not_spent.if-machine-limit.false end.in-Ended.is (λ r. t.step.ensures n r (i.long ∙ e))).0,
+      (ends_by (i.going h) not_done.if-machine-last.false not_spent.if-machine-limit.false end.in-Ended.is
           (λ r. t.step.ensures h.n r (i.long ∙ h.cells_are))).1,
     )
 
@@ -172,12 +172,12 @@ pub finish_spec : {M : Type 1} → statement M
 finish_spec =
     tie.close
     (tie.spec
-    invariant-loop
-    decreases-loop
+    invariant-loop-machine
+    decreases-loop-machine
     begins
-    (λ c. let turn : tie.At-loop invariant-loop decreases-loop = search in turn.loop.inv.long)
+    (λ c. let turn : tie.At-loop-machine invariant-loop-machine decreases-loop-machine = search in turn.loop-machine.invariant.long)
     done
-    (λ c. let turn : tie.At-loop invariant-loop decreases-loop = search in turn.loop.inv.long)
+    (λ c. let turn : tie.At-loop-machine invariant-loop-machine decreases-loop-machine = search in turn.loop-machine.invariant.long)
     spent
     step_requires
     (λ c. search rules)
@@ -185,7 +185,7 @@ finish_spec =
     again
     (λ c. search rules)
     (λ c.
-    let t : tie.After-step invariant-loop decreases-loop = search in
-    let turn : tie.At-loop invariant-loop decreases-loop = search in
-    t.step.kept.1.1.0 ∙ turn.loop.inv.long)
+    let t : tie.After-step invariant-loop-machine decreases-loop-machine = search in
+    let turn : tie.At-loop-machine invariant-loop-machine decreases-loop-machine = search in
+    t.step.kept.1.1.0 ∙ turn.loop-machine.invariant.long)
     ended)

@@ -8,36 +8,36 @@ use Rattle.machine_run.proofs.go_on.Statement.{statement}
 use Rattle.machine_run.proofs.go_on.Tie as tie
 
 -- the limit is within 32 bits
-add_limit : tie.Need-overflow-add-limit
+add_limit : tie.Need-overflow_add-limit
 add_limit c =
-    let arm : tie.After-last = search in
-    let t : tie.After-test-state = search in
+    let arm : tie.In-Gives = search in
+    let t : tie.After-test_state = search in
     let a : tie.Start = search in
     let s = a.args in
     let f = state_tested s.code.now s.memory.now s.depth s.cells s.state s.budget
-    (sym t.test-state.ensures ∙ ap count_answer arm.last.given.1) in
+    (sym t.test_state.ensures ∙ ap count_answer arm.in-Gives.is) in
     let room = f.state_is.room in
-    let small = a.fits.budget.fits in
+    let small = a.ranges.budget.fits in
     search rules
 
-declines : tie.Need-returns
+declines : tie.Need-returns-in-Refused
 declines c =
-    let why : tie.After-refusal = search in
-    let t : tie.After-test-state = search in
+    let why : tie.In-Refused = search in
+    let t : tie.After-test_state = search in
     let a : tie.Start = search in
     let s = a.args in
     state_declines s.code.now s.memory.now s.depth s.cells s.state s.budget
     (refused_by (state_tests s.code.now s.memory.now s.depth s.cells s.state s.budget)
-    why.refusal.given.1 t.test-state.ensures)
+    why.in-Refused.is t.test_state.ensures)
 
-runs : tie.Need-returns-2
+runs : tie.Need-returns-in-Gives
 runs c =
-    let run : tie.After-run-from = search in
-    let arm : tie.After-last = search in
-    let t : tie.After-test-state = search in
+    let run : tie.After-run_from = search in
+    let arm : tie.In-Gives = search in
+    let t : tie.After-test_state = search in
     let a : tie.Start = search in
     run.run_from.ensures a.args.cells a.args.budget
-    (sym t.test-state.ensures ∙ ap count_answer arm.last.given.1, refl)
+    (sym t.test_state.ensures ∙ ap count_answer arm.in-Gives.is, refl)
 
 pub go_on_spec : {M : Type 1} → statement M
 go_on_spec =
@@ -49,10 +49,10 @@ go_on_spec =
     add_limit
     -- run-from-requires
     (λ c κs.
-    let arm : tie.After-last = search in
-    let t : tie.After-test-state = search in
+    let arm : tie.In-Gives = search in
+    let t : tie.After-test_state = search in
     let a : tie.Start = search in
-    (a.args.cells, a.args.budget, (sym t.test-state.ensures ∙ ap count_answer arm.last.given.1, refl)))
+    (a.args.cells, a.args.budget, (sym t.test_state.ensures ∙ ap count_answer arm.in-Gives.is, refl)))
     (λ c. search rules)
     declines
     (λ c. search rules)

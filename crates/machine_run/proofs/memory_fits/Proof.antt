@@ -9,8 +9,8 @@ pub memory_fits_spec : {M : Type 1} → statement M
 memory_fits_spec =
     tie.close
     (tie.spec
-    (λ c. simp (lt-leb _ _ c.if1.true))
-    (λ c. simp (le-leb _ _ c.before.if1.false, lt-leb _ _ c.if2.true))
+    (λ c. simp (lt-leb _ _ c.if-depth.true))
+    (λ c. simp (le-leb _ _ c.before.if-depth.false, lt-leb _ _ c.if-cells.true))
     (λ c. search rules)
     (λ c. search rules)
-    (λ c. simp (le-leb _ _ c.before.if1.false, le-leb _ _ c.if2.false)))
+    (λ c. simp (le-leb _ _ c.before.if-depth.false, le-leb _ _ c.if-cells.false)))

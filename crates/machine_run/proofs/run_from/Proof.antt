@@ -15,8 +15,8 @@ finish_requires c κs =
     let made : tie.After-resumed = search in
     let a : tie.Start = search in
     let s = a.args in
-    let f = state_tested s.code.now s.memory.now s.depth a.pre.0 s.state a.pre.1
-    a.pre.2.0 in (
+    let f = state_tested s.code.now s.memory.now s.depth a.requires.0 s.state a.requires.1
+    a.requires.2.0 in (
       subst
           (λ (m : Machine). Starts m s.depth s.last s.limit)
           (sym made.resumed.ensures)
@@ -25,10 +25,10 @@ finish_requires c κs =
             placed = omega (arith, f.state_is.placed, f.all);
             held = f.state_is.held;
             marked = f.state_is.marked;
-            used = omega (arith, a.pre.2.1);
+            used = omega (arith, a.requires.2.1);
           }),
       record {
-        n = a.pre.0;
+        n = a.requires.0;
         records = f.records;
         given = f.code_is.given;
         small = f.small;

@@ -6,7 +6,7 @@ use Rattle.machine_run.proofs.run_machine.Tie as tie
 
 runs : tie.Need-returns
 runs c =
-    let run : tie.After-go-on = search in
+    let run : tie.After-go_on = search in
     let made : tie.After-fresh = search in
     let a : tie.Start = search in
     let s = a.args in

@@ -13,21 +13,21 @@ use Rattle.machine_run.proofs.run_tested.Tie as tie
 from_0 : {s : State} → s ≡ fresh_state → (budget : ℕ) → budget ≡ s.count + budget
 from_0 is budget = omega (arith, ap (λ (s : State). s.count) is)
 
-run_from_requires : tie.Need-run-from-requires
+run_from_requires : tie.Need-run_from-requires
 run_from_requires c κs =
     let a : tie.Start = search in
     let s = a.args in (
-      a.pre.0,
+      a.requires.0,
       s.budget,
       (
-        fresh_tested s.code.now s.memory.now s.depth a.pre.0 s.budget c.fresh.ensures a.pre.1,
+        fresh_tested s.code.now s.memory.now s.depth a.requires.0 s.budget c.fresh.ensures a.requires.1,
         from_0 c.fresh.ensures s.budget,
       ),
     )
 
 ran : tie.Need-returns
 ran c n tested =
-    let run : tie.After-run-from = search in
+    let run : tie.After-run_from = search in
     let made : tie.After-fresh = search in
     let a : tie.Start = search in
     let s = a.args in

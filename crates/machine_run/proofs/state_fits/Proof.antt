@@ -7,43 +7,43 @@ use Rattle.machine.proofs.Calls.{room_is}
 use Rattle.machine_run.proofs.state_fits.Statement.{statement}
 use Rattle.machine_run.proofs.state_fits.Tie as tie
 
-past_end : tie.Need-returns
+past_end : tie.Need-returns-then-last-state
 past_end c =
     let a : tie.Start = search in
     let s = a.args in
-    simp (lt-leb s.state.position s.last c.if1.true)
+    simp (lt-leb s.state.position s.last c.if-last-state.true)
 
-above_mark : tie.Need-returns-2
+above_mark : tie.Need-returns-then-state
 above_mark c =
-    let placed : tie.Else1 = search in
+    let placed : tie.Else-last-state = search in
     let a : tie.Start = search in
     let s = a.args in
-    simp (le-leb _ _ placed.if1.left, lt-leb s.state.size s.state.mark c.if2.true)
+    simp (le-leb _ _ placed.if-last-state.false, lt-leb s.state.size s.state.mark c.if-state.true)
 
-above_depth : tie.Need-returns-3
+above_depth : tie.Need-returns-then-depth-state
 above_depth c =
-    let held : tie.Else2 = search in
-    let placed : tie.Else1 = search in
+    let held : tie.Else-state = search in
+    let placed : tie.Else-last-state = search in
     let a : tie.Start = search in
     let s = a.args in
     simp (
-      le-leb _ _ placed.if1.left,
-      le-leb _ _ held.if2.left,
-      lt-leb s.state.mark s.depth c.if3.true,
+      le-leb _ _ placed.if-last-state.false,
+      le-leb _ _ held.if-state.false,
+      lt-leb s.state.mark s.depth c.if-depth-state.true,
     )
 
-counted : tie.Need-returns-4
+counted : tie.Need-returns
 counted c =
-    let deep : tie.Else3 = search in
-    let held : tie.Else2 = search in
-    let placed : tie.Else1 = search in
+    let deep : tie.Else-depth-state = search in
+    let held : tie.Else-state = search in
+    let placed : tie.Else-last-state = search in
     let a : tie.Start = search in
     let s = a.args in
     simp (
-      room_is s.state.count s.budget (omega (arith, a.fits.budget.fits)),
-      le-leb _ _ placed.if1.left,
-      le-leb _ _ held.if2.left,
-      le-leb _ _ deep.if3.left,
+      room_is s.state.count s.budget (omega (arith, a.ranges.budget.fits)),
+      le-leb _ _ placed.if-last-state.false,
+      le-leb _ _ held.if-state.false,
+      le-leb _ _ deep.if-depth-state.false,
     )
 
 pub state_fits_spec : {M : Type 1} → statement M

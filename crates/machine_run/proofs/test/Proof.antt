@@ -11,9 +11,9 @@ use Rattle.machine_run.proofs.test.Tie as tie
 tests : tie.Need-returns
 unfolding machine_tests
 tests c =
-    let f : tie.After-memory-fits = search in
+    let f : tie.After-memory_fits = search in
     let s : tie.Start = search in
-    c.test-machine.ensures
+    c.test_machine.ensures
     ∙ ap (λ fits. and_then (code_tests s.args.code.now s.args.cells fits) (λ P. gives (length P)))
     f.memory_fits.ensures
 

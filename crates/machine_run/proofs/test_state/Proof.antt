@@ -7,36 +7,36 @@ use Rattle.machine.proofs.Calls.{still_refused, then_fifteen}
 use Rattle.machine_run.proofs.test_state.Statement.{statement}
 use Rattle.machine_run.proofs.test_state.Tie as tie
 
-fifteen : tie.Need-returns
+fifteen : tie.Need-returns-then-not-state_fits
 fifteen c =
-    let unfit : tie.Then1 = search in
-    let f : tie.After-state-fits = search in
-    let arm : tie.After-last = search in
+    let unfit : tie.Then-not-state_fits = search in
+    let f : tie.After-state_fits = search in
+    let arm : tie.In-Gives = search in
     let t : tie.After-test = search in
     let a : tie.Start = search in
     let s = a.args in
     c.decline.ensures
     ∙ then_fifteen s.code.now s.memory.now s.depth s.cells s.state s.budget false
-    (sym f.state_fits.ensures ∙ not-true _ unfit.if1.taken) arm.last.given.1 t.test.ensures
+    (sym f.state_fits.ensures ∙ unfit.if-not-state_fits.true) arm.in-Gives.is t.test.ensures
 
-refused : tie.Need-returns-2
+refused : tie.Need-returns-in-Refused
 refused c =
-    let why : tie.After-refusal = search in
+    let why : tie.In-Refused = search in
     let t : tie.After-test = search in
     let a : tie.Start = search in
     let s = a.args in
     still_refused s.code.now s.memory.now s.depth s.cells s.state s.budget
-    why.refusal.given.1 t.test.ensures
+    why.in-Refused.is t.test.ensures
 
-passed : tie.Need-returns-3
+passed : tie.Need-returns-else-not-state_fits
 passed c =
-    let f : tie.After-state-fits = search in
-    let arm : tie.After-last = search in
+    let f : tie.After-state_fits = search in
+    let arm : tie.In-Gives = search in
     let t : tie.After-test = search in
     let a : tie.Start = search in
     let s = a.args in
     then_fifteen s.code.now s.memory.now s.depth s.cells s.state s.budget true
-    (sym f.state_fits.ensures ∙ not-false _ c.if1.false) arm.last.given.1 t.test.ensures
+    (sym f.state_fits.ensures ∙ c.if-not-state_fits.false) arm.in-Gives.is t.test.ensures
 
 pub test_state_spec : {M : Type 1} → statement M
 test_state_spec =

@@ -36,7 +36,7 @@ refused_9 c =
     let s = a.args in
     c.decline.ensures
     ∙ sym
-    (number s.code.now s.cells s.fits (sym w.is_whole.ensures ∙ not-true _ no.if-not-is_whole.true) refl
+    (number s.code.now s.cells s.fits (sym w.is_whole.ensures ∙ no.if-not-is_whole.true) refl
     refl)
 
 refused_10 : tie.Need-returns-then-place-last
@@ -51,7 +51,7 @@ refused_10 c =
     let s = a.args in
     c.decline-then-place-last.ensures
     ∙ sym
-    (number s.code.now s.cells s.fits (sym w.is_whole.ensures ∙ not-false _ whole.if-not-is_whole.false)
+    (number s.code.now s.cells s.fits (sym w.is_whole.ensures ∙ whole.if-not-is_whole.false)
     ((tested_as _ _ (machine_same s.cells) s.code.now k.machine.ensures f.mismatch-place.ensures).fails
     no.if-place-last.true) refl)
 
@@ -69,8 +69,8 @@ refused_11 c =
     let t = tested_as _ _ (machine_same s.cells) s.code.now k.machine.ensures f.mismatch-place.ensures in
     c.decline-then-not-fits.ensures
     ∙ sym
-    (number s.code.now s.cells s.fits (sym w.is_whole.ensures ∙ not-false _ whole.if-not-is_whole.false)
-    (t.passes (omega (arith, t.at_most, all.if-place-last.left))).1 (not-true _ no.if-not-fits.true))
+    (number s.code.now s.cells s.fits (sym w.is_whole.ensures ∙ whole.if-not-is_whole.false)
+    (t.passes (omega (arith, t.at_most, all.if-place-last.false))).1 (no.if-not-fits.true))
 
 passed : tie.Need-returns
 unfolding and_then
@@ -86,8 +86,8 @@ passed c =
     let P = t.passes (omega (arith, t.at_most, all.if-place-last.false)) in
     ap gives (sym (records_length (machine_kind s.cells) s.code.now 0 (record_count s.code.now) P.1))
     ∙ sym
-    (number s.code.now s.cells s.fits (sym w.is_whole.ensures ∙ not-false _ whole.if-not-is_whole.false) P.1
-    (not-false _ c.if-not-fits.false))
+    (number s.code.now s.cells s.fits (sym w.is_whole.ensures ∙ whole.if-not-is_whole.false) P.1
+    (c.if-not-fits.false))
 
 pub test_machine_spec : {M : Type 1} → statement M
 test_machine_spec =

@@ -76,54 +76,54 @@ pub +evaluate_plus_spec : {M : Type 1} → statement M
     -- element-copy-out-op
     (λ c.
     let s : InEvaluate t evaluate_lts.Start = search in
-    let w = (expression_opened _ _ _ s.pre.1.1.is).inside in
-    omega (arith, s.pre.1.0))
+    let w = (expression_opened _ _ _ s.requires.1.1.is).inside in
+    omega (arith, s.requires.1.0))
     -- constant-requires
     (λ c κs.
-    let k : InEvaluate t evaluate_lts.At-match-keys1 = search in
+    let k : InEvaluate t evaluate_lts.In-16 = search in
     let s : InEvaluate t evaluate_lts.Start = search in
-    (s.pre.1.0, (constant_read _ _ _ s.pre.1.1.is (inl k.match.keys1)).inside))
+    (s.requires.1.0, (constant_read _ _ _ s.requires.1.1.is (inl k.in-16.is)).inside))
     -- variable-requires
     (λ c κs.
-    let k : InEvaluate t evaluate_lts.At-match-keys2 = search in
+    let k : InEvaluate t evaluate_lts.In-17 = search in
     let s : InEvaluate t evaluate_lts.Start = search in
-    let p = variable_at _ _ _ s.pre.1.1.is k.match.keys2 in
+    let p = variable_at _ _ _ s.requires.1.1.is k.in-17.is in
     let v = p.0 in
-    let l = s.pre.1.0 in
+    let l = s.requires.1.0 in
     let w = p.1.inside in
     (omega arith, omega arith))
     -- plus-requires
     (λ c κs.
     let s : InEvaluate t evaluate_lts.Start = search in
-    let k : InEvaluate t evaluate_lts.At-match-rest = search in
-    let r = k.match.rest in
-    let on : InEvaluate t evaluate_lts.Then1 = search in
-    (omega arith, (last_sum _ _ _ s.pre.1.1.is r.0.1 r.1 on.if1.taken, s.pre.1)))
+    let k : InEvaluate t evaluate_lts.In_default = search in
+    let r = k.in_default.in_default-own.rest in
+    let on : InEvaluate t evaluate_lts.Then-op-lt-ONE_BYTE_CONSTANT = search in
+    (omega arith, (last_sum _ _ _ s.requires.1.1.is r.0.1 r.1 on.if-op-lt-ONE_BYTE_CONSTANT.true, s.requires.1)))
     -- constant-requires, of one byte
     (λ c κs.
     let s : InEvaluate t evaluate_lts.Start = search in
-    let k : InEvaluate t evaluate_lts.At-match-rest = search in
-    let r = k.match.rest in
-    let off : InEvaluate t evaluate_lts.Else1 = search in (
-      s.pre.1.0,
-      (constant_read _ _ _ s.pre.1.1.is (last_constant _ _ _ s.pre.1.1.is r.1 off.if1.left)).inside,
+    let k : InEvaluate t evaluate_lts.In_default = search in
+    let r = k.in_default.in_default-own.rest in
+    let off : InEvaluate t evaluate_lts.Else-op-lt-ONE_BYTE_CONSTANT = search in (
+      s.requires.1.0,
+      (constant_read _ _ _ s.requires.1.1.is (last_constant _ _ _ s.requires.1.1.is r.1 off.if-op-lt-ONE_BYTE_CONSTANT.false)).inside,
     ))
     -- returns
     (λ c.
     let s : InEvaluate t evaluate_lts.Start = search in
-    let k : InEvaluate t evaluate_lts.At-match-keys1 = search in
-    let p = constant_read _ _ _ s.pre.1.1.is (inl k.match.keys1) in (
+    let k : InEvaluate t evaluate_lts.In-16 = search in
+    let p = constant_read _ _ _ s.requires.1.1.is (inl k.in-16.is) in (
       λ h μ l. c.constant.ensures.0 _ h μ l ∙ sym (placed_is valuing _ p.read),
-      within_more c.constant.result 1 s.args.nest (expression_opened _ _ _ s.pre.1.1.is).nested
+      within_more c.constant.result 1 s.args.nest (expression_opened _ _ _ s.requires.1.1.is).nested
           c.constant.ensures.1,
     ))
     -- returns-2
     (λ c.
     let s : InEvaluate t evaluate_lts.Start = search in
-    let k : InEvaluate t evaluate_lts.At-match-keys2 = search in
-    let p = variable_at _ _ _ s.pre.1.1.is k.match.keys2 in (
+    let k : InEvaluate t evaluate_lts.In-17 = search in
+    let p = variable_at _ _ _ s.requires.1.1.is k.in-17.is in (
       λ h μ l. c.variable.ensures.0 h μ l ∙ sym (placed_is valuing _ p.1.read),
-      within_more c.variable.result 1 s.args.nest (expression_opened _ _ _ s.pre.1.1.is).nested
+      within_more c.variable.result 1 s.args.nest (expression_opened _ _ _ s.requires.1.1.is).nested
           c.variable.ensures.1,
     ))
     -- returns-3
@@ -131,122 +131,122 @@ pub +evaluate_plus_spec : {M : Type 1} → statement M
     -- returns-4
     (λ c.
     let s : InEvaluate t evaluate_lts.Start = search in
-    let k : InEvaluate t evaluate_lts.At-match-rest = search in
-    let r = k.match.rest in
-    let off : InEvaluate t evaluate_lts.Else1 = search in
-    let b = last_constant _ _ _ s.pre.1.1.is r.1 off.if1.left in
-    let p = constant_read _ _ _ s.pre.1.1.is b in (
-      λ h μ l. c.constant2.ensures.0 _ h μ l ∙ sym (placed_is valuing _ p.read),
-      within_more c.constant2.result 1 s.args.nest (expression_opened _ _ _ s.pre.1.1.is).nested
-          c.constant2.ensures.1,
+    let k : InEvaluate t evaluate_lts.In_default = search in
+    let r = k.in_default.in_default-own.rest in
+    let off : InEvaluate t evaluate_lts.Else-op-lt-ONE_BYTE_CONSTANT = search in
+    let b = last_constant _ _ _ s.requires.1.1.is r.1 off.if-op-lt-ONE_BYTE_CONSTANT.false in
+    let p = constant_read _ _ _ s.requires.1.1.is b in (
+      λ h μ l. c.constant-else-op-lt-ONE_BYTE_CONSTANT.ensures.0 _ h μ l ∙ sym (placed_is valuing _ p.read),
+      within_more c.constant-else-op-lt-ONE_BYTE_CONSTANT.result 1 s.args.nest (expression_opened _ _ _ s.requires.1.1.is).nested
+          c.constant-else-op-lt-ONE_BYTE_CONSTANT.ensures.1,
     )))
     (λ t. plus_lts.spec (plus_claims t) (at plus t) plus.post
     -- add-evaluate
     (λ c.
     let s : InPlus t plus_lts.Start = search in
-    let w = (expression_opened _ _ _ s.pre.1.1.1.is).inside in
-    omega (arith, s.pre.1.1.0))
+    let w = (expression_opened _ _ _ s.requires.1.1.1.is).inside in
+    omega (arith, s.requires.1.1.0))
     -- sub-evaluate
-    (λ c. let s : InPlus t plus_lts.Start = search in (expression_opened _ _ _ s.pre.1.1.1.is).nested)
+    (λ c. let s : InPlus t plus_lts.Start = search in (expression_opened _ _ _ s.requires.1.1.1.is).nested)
     -- evaluate-requires
     (λ c κs.
     let s : InPlus t plus_lts.Start = search in
-    let n = (expression_opened _ _ _ s.pre.1.1.1.is).nested in
-    (omega arith, (s.pre.1.1.0, was_read (sides t s).first)))
+    let n = (expression_opened _ _ _ s.requires.1.1.1.is).nested in
+    (omega arith, (s.requires.1.1.0, was_read (sides t s).first)))
     (λ c. search rules)
     (λ c. search rules)
     -- sub-evaluate-2
-    (λ c. let s : InPlus t plus_lts.Start = search in (expression_opened _ _ _ s.pre.1.1.1.is).nested)
+    (λ c. let s : InPlus t plus_lts.Start = search in (expression_opened _ _ _ s.requires.1.1.1.is).nested)
     -- evaluate-requires-2
     (λ c κs.
-    let x : InPlus t plus_lts.After-x = search in
+    let x : InPlus t plus_lts.In-Of = search in
     let e : InPlus t plus_lts.After-evaluate = search in
     let s : InPlus t plus_lts.Start = search in
-    let w = s.pre.1.1.1.is in
-    let left = value_told _ 0 0 _ x.x.given.1 (e.evaluate.ensures.0 0 0 (omega arith)) in
+    let w = s.requires.1.1.1.is in
+    let left = value_told _ 0 0 _ x.in-Of.is (e.evaluate.ensures.0 0 0 (omega arith)) in
     let n = (expression_opened _ _ _ w).nested in
-    (omega arith, (s.pre.1.1.0, right_read valuing summing plus_does w (sides t s) _ left)))
+    (omega arith, (s.requires.1.1.0, right_read valuing summing plus_does w (sides t s) _ left)))
     (λ c. search rules)
     -- add-larger
     (λ c.
-    let z : InPlus t plus_lts.After-high2 = search in
-    let f : InPlus t plus_lts.After-evaluate2 = search in
+    let z : InPlus t plus_lts.In-Spent-evaluate = search in
+    let f : InPlus t plus_lts.After-evaluate-in-Of = search in
     let s : InPlus t plus_lts.Start = search in
-    let most = within_told _ z.high2.given.1 f.evaluate2.ensures.1 in
-    let n = (expression_opened _ _ _ s.pre.1.1.1.is).nested in
-    omega (arith, s.fits.nest.fits))
+    let most = within_told _ z.in-Spent-evaluate.is f.evaluate-in-Of.ensures.1 in
+    let n = (expression_opened _ _ _ s.requires.1.1.1.is).nested in
+    omega (arith, s.ranges.nest.fits))
     (λ c κs. search rules)
     (λ c. search rules)
     -- add-larger-2
     (λ c.
-    let y : InPlus t plus_lts.After-y = search in
-    let f : InPlus t plus_lts.After-evaluate2 = search in
+    let y : InPlus t plus_lts.In-Of-evaluate = search in
+    let f : InPlus t plus_lts.After-evaluate-in-Of = search in
     let s : InPlus t plus_lts.Start = search in
-    let most = (within_told _ y.y.given.1 f.evaluate2.ensures.1).1 in
-    let n = (expression_opened _ _ _ s.pre.1.1.1.is).nested in
-    omega (arith, s.fits.nest.fits))
+    let most = (within_told _ y.in-Of-evaluate.is f.evaluate-in-Of.ensures.1).1 in
+    let n = (expression_opened _ _ _ s.requires.1.1.1.is).nested in
+    omega (arith, s.ranges.nest.fits))
     (λ c κs. search rules)
     -- summed-requires
-    (λ c κs. let g : InPlus t plus_lts.After-larger2 = search in omega (arith, g.larger2.ensures))
+    (λ c κs. let g : InPlus t plus_lts.After-larger-in-Of-evaluate = search in omega (arith, g.larger-in-Of-evaluate.ensures))
     -- returns
     (λ c.
-    let z : InPlus t plus_lts.After-high = search in
+    let z : InPlus t plus_lts.In-Spent = search in
     let e : InPlus t plus_lts.After-evaluate = search in
     let s : InPlus t plus_lts.Start = search in
-    let most = within_told _ z.high.given.1 e.evaluate.ensures.1 in (
+    let most = within_told _ z.in-Spent.is e.evaluate.ensures.1 in (
       λ h μ l.
-          let stops = value_told _ h μ _ z.high.given.1 (e.evaluate.ensures.0 h μ l) in
-          sym (first_ended valuing summing plus_does s.pre.1.1.1.is (sides t s) _ stops),
+          let stops = value_told _ h μ _ z.in-Spent.is (e.evaluate.ensures.0 h μ l) in
+          sym (first_ended valuing summing plus_does s.requires.1.1.1.is (sides t s) _ stops),
       omega arith,
     ))
     -- returns-2
     (λ c.
     let g : InPlus t plus_lts.After-larger = search in
-    let z : InPlus t plus_lts.After-high2 = search in
-    let f : InPlus t plus_lts.After-evaluate2 = search in
-    let x : InPlus t plus_lts.After-x = search in
+    let z : InPlus t plus_lts.In-Spent-evaluate = search in
+    let f : InPlus t plus_lts.After-evaluate-in-Of = search in
+    let x : InPlus t plus_lts.In-Of = search in
     let e : InPlus t plus_lts.After-evaluate = search in
     let s : InPlus t plus_lts.Start = search in
-    let some = within_told _ x.x.given.1 e.evaluate.ensures.1 in
-    let most = within_told _ z.high2.given.1 f.evaluate2.ensures.1 in
-    let n = (expression_opened _ _ _ s.pre.1.1.1.is).nested in
+    let some = within_told _ x.in-Of.is e.evaluate.ensures.1 in
+    let most = within_told _ z.in-Spent-evaluate.is f.evaluate-in-Of.ensures.1 in
+    let n = (expression_opened _ _ _ s.requires.1.1.1.is).nested in
     let top = g.larger.ensures in (
       λ h μ l.
-          let left = value_told _ h μ _ x.x.given.1 (e.evaluate.ensures.0 h μ l) in
-          let stops = value_told _ (suc h) _ _ z.high2.given.1
-          (f.evaluate2.ensures.0 (suc h) (max μ (h + x.x.given.0.1.0)) (omega (arith, some.0))) in
-          ap (λ k. ended (spent, ending f.evaluate2.last.1.1.1.1.0 k s.args.store.now))
-          (joined h μ x.x.given.0.1.0 z.high2.given.0.0 top)
-          ∙ sym (second_ended valuing summing plus_does s.pre.1.1.1.is (sides t s) _ left stops),
+          let left = value_told _ h μ _ x.in-Of.is (e.evaluate.ensures.0 h μ l) in
+          let stops = value_told _ (suc h) _ _ z.in-Spent-evaluate.is
+          (f.evaluate-in-Of.ensures.0 (suc h) (max μ (h + x.in-Of.first)) (omega (arith, some.0))) in
+          ap (λ k. ended (spent, ending f.evaluate-in-Of.new.left k s.args.store.now))
+          (joined h μ x.in-Of.first z.in-Spent-evaluate.high top)
+          ∙ sym (second_ended valuing summing plus_does s.requires.1.1.1.is (sides t s) _ left stops),
       omega (arith, some.1),
     ))
     -- returns-3
     (λ c.
-    let j : InPlus t plus_lts.After-known-told4 = search in
-    let g : InPlus t plus_lts.After-larger2 = search in
-    let y : InPlus t plus_lts.After-y = search in
-    let f : InPlus t plus_lts.After-evaluate2 = search in
-    let i : InPlus t plus_lts.After-known-told2 = search in
-    let x : InPlus t plus_lts.After-x = search in
+    let j : InPlus t plus_lts.In-Of-evaluate = search in
+    let g : InPlus t plus_lts.After-larger-in-Of-evaluate = search in
+    let y : InPlus t plus_lts.In-Of-evaluate = search in
+    let f : InPlus t plus_lts.After-evaluate-in-Of = search in
+    let i : InPlus t plus_lts.In-Of = search in
+    let x : InPlus t plus_lts.In-Of = search in
     let e : InPlus t plus_lts.After-evaluate = search in
     let s : InPlus t plus_lts.Start = search in
-    let some = within_told _ x.x.given.1 e.evaluate.ensures.1 in
-    let most = within_told _ y.y.given.1 f.evaluate2.ensures.1 in
-    let n = (expression_opened _ _ _ s.pre.1.1.1.is).nested in
-    let top = g.larger2.ensures in
-    let x_Fits = to_z-of_z {w = w32} {z = x.x.given.0.0} (record { sfits = i.known-told2.given.0.1 }) in
-    let y_fits = to_z-of_z {w = w32} {z = y.y.given.0.0} (record { sfits = j.known-told4.given.0.1 }) in
-    let rest = f.evaluate2.last.1.1.1.1.0 in
+    let some = within_told _ x.in-Of.is e.evaluate.ensures.1 in
+    let most = within_told _ y.in-Of-evaluate.is f.evaluate-in-Of.ensures.1 in
+    let n = (expression_opened _ _ _ s.requires.1.1.1.is).nested in
+    let top = g.larger-in-Of-evaluate.ensures in
+    let x_Fits = to_z-of_z {w = w32} {z = x.in-Of.x} (record { sfits = i.in-Of.known_told-in-Of-1-own.given.0.1 }) in
+    let y_fits = to_z-of_z {w = w32} {z = y.in-Of-evaluate.y} (record { sfits = j.in-Of-evaluate.known_told-in-Of-evaluate-2-1-own.given.0.1 }) in
+    let rest = f.evaluate-in-Of.new.left in
     let m = s.args.store.now in (
       λ h μ l.
-          let left = value_told _ h μ _ x.x.given.1 (e.evaluate.ensures.0 h μ l) in
-          let right = value_told _ (suc h) _ _ y.y.given.1
-          (f.evaluate2.ensures.0 (suc h) (max μ (h + x.x.given.0.1.0)) (omega (arith, some.0))) in
-          let high = joined h μ x.x.given.0.1.0 y.y.given.0.1.0 top in
+          let left = value_told _ h μ _ x.in-Of.is (e.evaluate.ensures.0 h μ l) in
+          let right = value_told _ (suc h) _ _ y.in-Of-evaluate.is
+          (f.evaluate-in-Of.ensures.0 (suc h) (max μ (h + x.in-Of.first)) (omega (arith, some.0))) in
+          let high = joined h μ x.in-Of.first y.in-Of-evaluate.high top in
           c.summed.ensures.0 h μ m
-          ∙ (λ i. reaching y.y.given.0.1.1.0
+          ∙ (λ i. reaching y.in-Of-evaluate.next
           (summing (x_Fits i) (y_fits i) (state rest (suc (suc h)) (high i) m)))
-          ∙ sym (both_ok valuing summing plus_does s.pre.1.1.1.is (sides t s) _ left right),
-      within_more c.summed.result g.larger2.result s.args.nest (omega (arith, some.1, most.1))
+          ∙ sym (both_ok valuing summing plus_does s.requires.1.1.1.is (sides t s) _ left right),
+      within_more c.summed.result g.larger-in-Of-evaluate.result s.args.nest (omega (arith, some.1, most.1))
           c.summed.ensures.1,
     )))

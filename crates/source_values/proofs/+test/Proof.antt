@@ -60,123 +60,123 @@ pub +test_spec : {M : Type 1} → statement M
     -- element-copy-out-op
     (λ c.
     let s : InTest t test_lts.Start = search in
-    let w = (condition_opened _ _ _ s.pre.1.1.0.is).inside in
-    omega (arith, s.pre.1.0))
+    let w = (condition_opened _ _ _ s.requires.1.1.0.is).inside in
+    omega (arith, s.requires.1.0))
     -- bc-requires
     (λ c κs.
-    let k : InTest t test_lts.At-match-keys1 = search in
+    let k : InTest t test_lts.In-32 = search in
     let s : InTest t test_lts.Start = search in
-    let w = (bc_at _ _ _ s.pre.1.1.0.is k.match.keys1).inside in
-    omega (arith, s.pre.1.0))
+    let w = (bc_at _ _ _ s.requires.1.1.0.is k.in-32.is).inside in
+    omega (arith, s.requires.1.0))
     -- returns
     (λ c.
-    let k : InTest t test_lts.At-match-keys1 = search in
+    let k : InTest t test_lts.In-32 = search in
     let s : InTest t test_lts.Start = search in
-    let p = bc_at _ _ _ s.pre.1.1.0.is k.match.keys1 in
+    let p = bc_at _ _ _ s.requires.1.1.0.is k.in-32.is in
     c.bc.ensures _ _ ∙ sym (placed_is (under s.args.flag) _ p.read))
     -- add-test
     (λ c.
     let s : InTest t test_lts.Start = search in
-    let w = (condition_opened _ _ _ s.pre.1.1.0.is).inside in
-    omega (arith, s.pre.1.0))
+    let w = (condition_opened _ _ _ s.requires.1.1.0.is).inside in
+    omega (arith, s.requires.1.0))
     -- sub-test
-    (λ c. let s : InTest t test_lts.Start = search in (condition_opened _ _ _ s.pre.1.1.0.is).nested)
+    (λ c. let s : InTest t test_lts.Start = search in (condition_opened _ _ _ s.requires.1.1.0.is).nested)
     -- test-requires
     (λ c κs.
-    let k : InTest t test_lts.At-match-keys2 = search in
+    let k : InTest t test_lts.In-33 = search in
     let s : InTest t test_lts.Start = search in
-    let q = s.pre.1.1 in
+    let q = s.requires.1.1 in
     let n = (condition_opened _ _ _ q.0.is).nested in
-    (omega arith, (s.pre.1.0, (was_read (not_at _ _ _ q.0.is k.match.keys2).read, q.1))))
+    (omega arith, (s.requires.1.0, (was_read (not_at _ _ _ q.0.is k.in-33.is).read, q.1))))
     (λ c κs. search rules)
     -- returns-2
     (λ c.
     let f : InTest t test_lts.After-test = search in
-    let k : InTest t test_lts.At-match-keys2 = search in
+    let k : InTest t test_lts.In-33 = search in
     let s : InTest t test_lts.Start = search in
-    let p = not_at _ _ _ s.pre.1.1.0.is k.match.keys2 in
+    let p = not_at _ _ _ s.requires.1.1.0.is k.in-33.is in
     c.inverted.ensures _ _ s.args.store.now ∙ ap inverse f.test.ensures
-    ∙ sym (not_is s.args.flag s.pre.1.1.0.is p _))
+    ∙ sym (not_is s.args.flag s.requires.1.1.0.is p _))
     -- add-test-2
     (λ c.
     let s : InTest t test_lts.Start = search in
-    let w = (condition_opened _ _ _ s.pre.1.1.0.is).inside in
-    omega (arith, s.pre.1.0))
+    let w = (condition_opened _ _ _ s.requires.1.1.0.is).inside in
+    omega (arith, s.requires.1.0))
     -- sub-test-2
-    (λ c. let s : InTest t test_lts.Start = search in (condition_opened _ _ _ s.pre.1.1.0.is).nested)
+    (λ c. let s : InTest t test_lts.Start = search in (condition_opened _ _ _ s.requires.1.1.0.is).nested)
     -- test-requires-2
     (λ c κs.
-    let k : InTest t test_lts.At-match-keys3 = search in
+    let k : InTest t test_lts.In-34 = search in
     let s : InTest t test_lts.Start = search in
-    let q = s.pre.1.1 in
+    let q = s.requires.1.1 in
     let n = (condition_opened _ _ _ q.0.is).nested in
-    (omega arith, (s.pre.1.0, (was_read (sides t s k.match.keys3).first, q.1))))
+    (omega arith, (s.requires.1.0, (was_read (sides t s k.in-34.is).first, q.1))))
     (λ c. search rules)
     -- returns-3
     (λ c.
-    let z : InTest t test_lts.After-enum-told = search in
-    let e : InTest t test_lts.After-test2 = search in
-    let k : InTest t test_lts.At-match-keys3 = search in
+    let z : InTest t test_lts.In-Spent = search in
+    let e : InTest t test_lts.After-test-in-34 = search in
+    let k : InTest t test_lts.In-34 = search in
     let s : InTest t test_lts.Start = search in
-    let stops = truth_told _ _ _ z.enum_told.given.1 e.test2.ensures in
-    sym (and_ended s.args.flag s.pre.1.1.0.is (sides t s k.match.keys3) _ stops))
+    let stops = truth_told _ _ _ z.in-Spent.is e.test-in-34.ensures in
+    sym (and_ended s.args.flag s.requires.1.1.0.is (sides t s k.in-34.is) _ stops))
     (λ c. search rules)
     -- sub-test-3
-    (λ c. let s : InTest t test_lts.Start = search in (condition_opened _ _ _ s.pre.1.1.0.is).nested)
+    (λ c. let s : InTest t test_lts.Start = search in (condition_opened _ _ _ s.requires.1.1.0.is).nested)
     -- test-requires-3
     (λ c κs.
-    let v : InTest t test_lts.After-value = search in
-    let e : InTest t test_lts.After-test2 = search in
-    let k : InTest t test_lts.At-match-keys3 = search in
+    let v : InTest t test_lts.In-Of = search in
+    let e : InTest t test_lts.After-test-in-34 = search in
+    let k : InTest t test_lts.In-34 = search in
     let s : InTest t test_lts.Start = search in
-    let w = s.pre.1.1.0.is in
-    let left = truth_told _ _ _ v.value.given.1 e.test2.ensures in
+    let w = s.requires.1.1.0.is in
+    let left = truth_told _ _ _ v.in-Of.is e.test-in-34.ensures in
     let n = (condition_opened _ _ _ w).nested in (
       omega arith,
       (
-        s.pre.1.0,
-        (was_read (and_second s.args.flag w (sides t s k.match.keys3) _ left), s.pre.1.1.1),
+        s.requires.1.0,
+        (was_read (and_second s.args.flag w (sides t s k.in-34.is) _ left), s.requires.1.1.1),
       ),
     ))
     -- returns-4
     (λ c.
-    let on : InTest t test_lts.Then1 = search in
-    let v : InTest t test_lts.After-value = search in
-    let e : InTest t test_lts.After-test2 = search in
-    let k : InTest t test_lts.At-match-keys3 = search in
+    let on : InTest t test_lts.Then-value = search in
+    let v : InTest t test_lts.In-Of = search in
+    let e : InTest t test_lts.After-test-in-34 = search in
+    let k : InTest t test_lts.In-34 = search in
     let s : InTest t test_lts.Start = search in
-    let left = truth_told _ _ _ v.value.given.1 e.test2.ensures in
-    c.test3.ensures
-    ∙ sym (and_true s.args.flag s.pre.1.1.0.is (sides t s k.match.keys3) _ left on.if1.taken))
+    let left = truth_told _ _ _ v.in-Of.is e.test-in-34.ensures in
+    c.test-then-value.ensures
+    ∙ sym (and_true s.args.flag s.requires.1.1.0.is (sides t s k.in-34.is) _ left on.if-value.true))
     -- part-end-requires
     (λ c κs.
-    let v : InTest t test_lts.After-value = search in
-    let e : InTest t test_lts.After-test2 = search in
-    let k : InTest t test_lts.At-match-keys3 = search in
+    let v : InTest t test_lts.In-Of = search in
+    let e : InTest t test_lts.After-test-in-34 = search in
+    let k : InTest t test_lts.In-34 = search in
     let s : InTest t test_lts.Start = search in
-    let left = truth_told _ _ _ v.value.given.1 e.test2.ensures in
-    let second = and_second s.args.flag s.pre.1.1.0.is (sides t s k.match.keys3) _ left in
-    (condition_ends _ _ _ second, s.pre.1.1.1))
+    let left = truth_told _ _ _ v.in-Of.is e.test-in-34.ensures in
+    let second = and_second s.args.flag s.requires.1.1.0.is (sides t s k.in-34.is) _ left in
+    (condition_ends _ _ _ second, s.requires.1.1.1))
     -- returns-5
     (λ c.
-    let off : InTest t test_lts.Else1 = search in
-    let v : InTest t test_lts.After-value = search in
-    let e : InTest t test_lts.After-test2 = search in
-    let k : InTest t test_lts.At-match-keys3 = search in
+    let off : InTest t test_lts.Else-value = search in
+    let v : InTest t test_lts.In-Of = search in
+    let e : InTest t test_lts.After-test-in-34 = search in
+    let k : InTest t test_lts.In-34 = search in
     let s : InTest t test_lts.Start = search in
-    let w = s.pre.1.1.0.is in
-    let left = truth_told _ _ _ v.value.given.1 e.test2.ensures in
-    let second = and_second s.args.flag w (sides t s k.match.keys3) _ left in
-    let end = condition_end _ _ _ second c.part-end.ensures in
-    let lent = e.test2.last.1.1.1.1.1 in
-    ap (λ n. ok (false upto n) (state lent.0 0 lent.1.0 s.args.store.now)) end
-    ∙ sym (and_false s.args.flag w (sides t s k.match.keys3) _ left off.if1.left))
+    let w = s.requires.1.1.0.is in
+    let left = truth_told _ _ _ v.in-Of.is e.test-in-34.ensures in
+    let second = and_second s.args.flag w (sides t s k.in-34.is) _ left in
+    let end = condition_end _ _ _ second c.part_end.ensures in
+    let lent = e.test-in-34.new in
+    ap (λ n. ok (false upto n) (state lent.left 0 lent.mark s.args.store.now)) end
+    ∙ sym (and_false s.args.flag w (sides t s k.in-34.is) _ left off.if-value.false))
     -- smaller-requires
     (λ c κs.
-    let k : InTest t test_lts.At-match-rest = search in
+    let k : InTest t test_lts.In_default = search in
     let s : InTest t test_lts.Start = search in
-    let r = k.match.rest in
-    let q = s.pre.1.1 in
-    (last_condition _ _ _ q.0.is r.0.0.1 r.0.1 r.1, (s.pre.1.0, q.0)))
+    let r = k.in_default.in_default-own.rest in
+    let q = s.requires.1.1 in
+    (last_condition _ _ _ q.0.is r.0.0.1 r.0.1 r.1, (s.requires.1.0, q.0)))
     -- returns-6
     (λ c. let s : InTest t test_lts.Start = search in c.smaller.ensures s.args.flag))

@@ -20,21 +20,21 @@ costs_none : (v flag : Bool) (s : State) → beq v flag ≡ false → truth sums
 unfolding truth
 costs_none v flag s e = ap (λ b. (if b then (do tick; give v) else give v) s) e
 
-returns : tie.Need-returns
+returns : tie.Need-returns-then-left-eq0
 returns c μ m =
-    let on : tie.Then1 = search in
-    sym (ap (reaching _) (ticks _ _ _ on.if1.taken) ∙ spends _ _ _ c.if2.true)
+    let on : tie.Then-value-flag = search in
+    sym (ap (reaching _) (ticks _ _ _ on.if-value-flag.true) ∙ spends _ _ _ c.if-left-eq0.true)
 
-returns_2 : tie.Need-returns-2
+returns_2 : tie.Need-returns-then-value-flag
 unfolding then' give
 returns_2 c μ m =
-    let on : tie.Then1 = search in
-    let some : tie.Else2 = search in
-    sym (ap (reaching _) (ticks _ _ _ on.if1.taken) ∙ goes _ _ _ some.if2.left)
+    let on : tie.Then-value-flag = search in
+    let some : tie.Else-left-eq0 = search in
+    sym (ap (reaching _) (ticks _ _ _ on.if-value-flag.true) ∙ goes _ _ _ some.if-left-eq0.false)
 
-returns_3 : tie.Need-returns-3
+returns_3 : tie.Need-returns
 unfolding then' give
-returns_3 c μ m = sym (ap (reaching _) (costs_none _ _ _ c.if1.false))
+returns_3 c μ m = sym (ap (reaching _) (costs_none _ _ _ c.if-value-flag.false))
 
 pub bc_spec : {M : Type 1} → statement M
 bc_spec =

@@ -14,25 +14,25 @@ use Rattle.source_values.proofs.Steps.{spends, goes, stays_marked, pushed_one}
 use Rattle.source_values.proofs.constant.Statement.{statement}
 use Rattle.source_values.proofs.constant.Tie as tie
 
-returns : tie.Need-returns
+returns : tie.Need-returns-then-left-eq0
 unfolding value
-returns c = (λ m h μ l. stays_marked _ h μ m l ∙ sym (spends _ _ _ c.if1.true), omega arith)
+returns c = (λ m h μ l. stays_marked _ h μ m l ∙ sym (spends _ _ _ c.if-left-eq0.true), omega arith)
 
-returns_2 : tie.Need-returns-2
+returns_2 : tie.Need-returns
 unfolding value then' give raise
 returns_2 c =
-    let n : tie.After-constant-at = search in
-    let some : tie.Else1 = search in
+    let n : tie.After-constant_at-constant = search in
+    let some : tie.Else-left-eq0 = search in
     let s : tie.Start = search in
-    let r = n.constant_at.result in
+    let r = n.constant_at-constant.result in
     let fits : to_z w32 (of_z w32 r.value) ≡ r.value = search rules in
     let a = s.args in
     let next : a.at + 1 + r.width ≡ a.at + (1 + constant_width (get_or a.text.now a.at 0)) =
-    omega (arith, ap (λ r. r.width) n.constant_at.ensures) in (
+    omega (arith, ap (λ r. r.width) n.constant_at-constant.ensures) in (
       λ m h μ l.
           ap (λ j. ok (to_z w32 (of_z w32 r.value) upto j) (state (a.left.now - 1) (suc h) (max μ (h + 1)) m)) next
-          ∙ pushed_one (a.left.now - 1) h μ m (fits ∙ ap (λ r. r.value) n.constant_at.ensures)
-          ∙ sym (goes _ _ _ some.if1.left),
+          ∙ pushed_one (a.left.now - 1) h μ m (fits ∙ ap (λ r. r.value) n.constant_at-constant.ensures)
+          ∙ sym (goes _ _ _ some.if-left-eq0.false),
       (omega arith, omega arith),
     )
 
@@ -45,6 +45,6 @@ constant_spec =
     (λ c. search rules)
     (λ c. search rules)
     (λ c.
-    let n : tie.After-constant-at = search in
-    omega (arith, ap (λ r. r.width) n.constant_at.ensures))
+    let n : tie.After-constant_at-constant = search in
+    omega (arith, ap (λ r. r.width) n.constant_at-constant.ensures))
     returns_2)

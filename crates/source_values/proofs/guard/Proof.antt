@@ -13,8 +13,8 @@ guard_spec =
     -- element-copy-out-if1
     (λ c.
     let s : tie.Start = search in
-    let w = (condition_opened _ _ _ s.pre.1.0.is).inside in
-    omega (arith, s.pre.0))
+    let w = (condition_opened _ _ _ s.requires.1.0.is).inside in
+    omega (arith, s.requires.0))
     (λ c κs. search rules)
     -- returns
     (λ c. c.smaller.ensures false)

@@ -12,6 +12,6 @@ inverted_spec =
     (λ c. search rules)
     (λ c. search rules)
     -- returns
-    (λ c left μ m. let t : tie.After-enum-told = search in simp t.enum_told.given.1)
+    (λ c left μ m. let t : tie.In-Spent = search in simp t.in-Spent.is)
     -- returns-2
-    (λ c left μ m. let t : tie.After-t = search in simp t.t.given.1))
+    (λ c left μ m. let t : tie.In-Of = search in simp t.in-Of.is))

@@ -12,8 +12,8 @@ right_side_spec =
     -- element-copy-out-if1
     (λ c.
     let s : tie.Start = search in
-    let w = (expression_opened _ _ _ s.pre.1.is).inside in
-    omega (arith, s.pre.0))
+    let w = (expression_opened _ _ _ s.requires.1.is).inside in
+    omega (arith, s.requires.0))
     (λ c κs. search rules)
     (λ c. search rules)
     (λ c κs. search rules)

@@ -13,20 +13,20 @@ use Rattle.source_values.proofs.Steps.{spends, goes, stays_marked, pushed_one}
 use Rattle.source_values.proofs.variable.Statement.{statement}
 use Rattle.source_values.proofs.variable.Tie as tie
 
-returns : tie.Need-returns
+returns : tie.Need-returns-then-left-eq0
 unfolding value
-returns c = (λ h μ l. stays_marked _ h μ _ l ∙ sym (spends _ _ _ c.if1.true), omega arith)
+returns c = (λ h μ l. stays_marked _ h μ _ l ∙ sym (spends _ _ _ c.if-left-eq0.true), omega arith)
 
-returns_2 : tie.Need-returns-2
+returns_2 : tie.Need-returns
 unfolding value then' give raise cell
 returns_2 c =
-    let some : tie.Else1 = search in
+    let some : tie.Else-left-eq0 = search in
     let s : tie.Start = search in
     let a = s.args in
     let x = get_or a.store.now (get_or a.text.now (a.at + 1) 0) (pos 0) in
     let z : to_z w32 (of_z w32 x) ≡ x = search rules in (
       λ h μ l.
-          pushed_one (a.left.now - 1) h μ a.store.now z ∙ sym (goes _ _ _ some.if1.left),
+          pushed_one (a.left.now - 1) h μ a.store.now z ∙ sym (goes _ _ _ some.if-left-eq0.false),
       (omega arith, omega arith),
     )
 

@@ -128,72 +128,72 @@ unfolding command_of decline
     (λ c. search rules)
     (λ c. search rules)
     (λ c.
-    let r : InChoice t choice_lts.After-condition = search in
-    first_ends _ commands (conditions false) (condition_reading _ _) _ _ _ _ _ _ r.condition.ensures
-    c.enum_told.given.1)
+    let r : InChoice t choice_lts.After-condition-test = search in
+    first_ends _ commands (conditions false) (condition_reading _ _) _ _ _ _ _ _ r.condition-test.ensures
+    c.in_default.is)
     (λ c κs.
-    let x : InChoice t choice_lts.After-test = search in
-    let r : InChoice t choice_lts.After-condition = search in
+    let x : InChoice t choice_lts.In-Read = search in
+    let r : InChoice t choice_lts.After-condition-test = search in
     let s : InChoice t choice_lts.Start = search in
-    (search rules, next_given (conditions false) _ s.pre.1.0 r.condition.ensures x.test.given.1))
+    (search rules, next_given (conditions false) _ s.requires.1.0 r.condition-test.ensures x.in-Read.is))
     (λ c. search rules)
     (λ c. search rules)
     (λ c.
-    let r' : InChoice t choice_lts.After-command = search in
-    let x : InChoice t choice_lts.After-test = search in
-    let r : InChoice t choice_lts.After-condition = search in
+    let r' : InChoice t choice_lts.After-command-first = search in
+    let x : InChoice t choice_lts.In-Read = search in
+    let r : InChoice t choice_lts.After-condition-test = search in
     second_ends _ commands (conditions false) commands (condition_reading _ _) (reading _ _) _ _ _ _ _ _
-    r.condition.ensures x.test.given.1 r'.command.ensures c.enum-told2.given.1)
+    r.condition-test.ensures x.in-Read.is r'.command-first.ensures c.in_default-first.is)
     (λ c κs.
-    let x' : InChoice t choice_lts.After-first = search in
-    let r' : InChoice t choice_lts.After-command = search in
-    let x : InChoice t choice_lts.After-test = search in
-    let r : InChoice t choice_lts.After-condition = search in
+    let x' : InChoice t choice_lts.In-Read-first = search in
+    let r' : InChoice t choice_lts.After-command-first = search in
+    let x : InChoice t choice_lts.In-Read = search in
+    let r : InChoice t choice_lts.After-condition-test = search in
     let s : InChoice t choice_lts.Start = search in
-    let given = next_given (conditions false) _ s.pre.1.0 r.condition.ensures x.test.given.1 in
-    (search rules, next_given commands _ given r'.command.ensures x'.first.given.1))
+    let given = next_given (conditions false) _ s.requires.1.0 r.condition-test.ensures x.in-Read.is in
+    (search rules, next_given commands _ given r'.command-first.ensures x'.in-Read-first.is))
     (λ c κs.
-    let x' : InChoice t choice_lts.After-first = search in
-    let r' : InChoice t choice_lts.After-command = search in
-    let k : InChoice t choice_lts.After-shared-slice-known = search in
+    let x' : InChoice t choice_lts.In-Read-first = search in
+    let r' : InChoice t choice_lts.After-command-first = search in
+    let k : InChoice t choice_lts.After-shared_slice_known-1 = search in
     let s : InChoice t choice_lts.Start = search in
-    let bytes : Bytes s.args.text.now = λ i. (k.shared-slice-known.given i).fits in
-    let short = s.pre.1.0.short in
+    let bytes : Bytes s.args.text.now = λ i. (k.shared_slice_known-1.given i).fits in
+    let short = s.requires.1.0.short in
     room 4096 4096 _ _ _ _ (omega arith)
-    (rw x'.first.given.1 at (command_small _ bytes short _ _ _ _ _ r'.command.ensures))
-    (command_small _ bytes short _ _ _ _ _ c.command2.ensures))
+    (rw x'.in-Read-first.is at (command_small _ bytes short _ _ _ _ _ r'.command-first.ensures))
+    (command_small _ bytes short _ _ _ _ _ c.command-second.ensures))
     (λ c κs.
-    let x' : InChoice t choice_lts.After-first = search in
-    let r' : InChoice t choice_lts.After-command = search in
-    let x : InChoice t choice_lts.After-test = search in
-    let r : InChoice t choice_lts.After-condition = search in
-    let k : InChoice t choice_lts.After-shared-slice-known = search in
+    let x' : InChoice t choice_lts.In-Read-first = search in
+    let r' : InChoice t choice_lts.After-command-first = search in
+    let x : InChoice t choice_lts.In-Read = search in
+    let r : InChoice t choice_lts.After-condition-test = search in
+    let k : InChoice t choice_lts.After-shared_slice_known-1 = search in
     let s : InChoice t choice_lts.Start = search in
-    let bytes : Bytes s.args.text.now = λ i. (k.shared-slice-known.given i).fits in
-    let short = s.pre.1.0.short in
+    let bytes : Bytes s.args.text.now = λ i. (k.shared_slice_known-1.given i).fits in
+    let short = s.requires.1.0.short in
     rw c.joined.ensures
     (room 4096 8192 _ _ _ _ (omega arith)
-    (rw x.test.given.1 at (condition_small _ bytes short _ _ _ _ _ _ r.condition.ensures))
+    (rw x.in-Read.is at (condition_small _ bytes short _ _ _ _ _ _ r.condition-test.ensures))
     (small_together 4096 4096 _ _
-    (rw x'.first.given.1 at (command_small _ bytes short _ _ _ _ _ r'.command.ensures))
-    (command_small _ bytes short _ _ _ _ _ c.before.command2.ensures))))
+    (rw x'.in-Read-first.is at (command_small _ bytes short _ _ _ _ _ r'.command-first.ensures))
+    (command_small _ bytes short _ _ _ _ _ c.before.command-second.ensures))))
     (λ c.
-    let r'' : InChoice t choice_lts.After-command2 = search in
-    let x' : InChoice t choice_lts.After-first = search in
-    let r' : InChoice t choice_lts.After-command = search in
-    let x : InChoice t choice_lts.After-test = search in
-    let r : InChoice t choice_lts.After-condition = search in
+    let r'' : InChoice t choice_lts.After-command-second = search in
+    let x' : InChoice t choice_lts.In-Read-first = search in
+    let r' : InChoice t choice_lts.After-command-first = search in
+    let x : InChoice t choice_lts.In-Read = search in
+    let r : InChoice t choice_lts.After-condition-test = search in
     three _ commands (conditions false) commands commands IF◌THEN◌ELSE◌
     (condition_reading _ _) (reading _ _) (reading _ _) _ _ _ _ _ _ 1 0 choice_alike
-    r.condition.ensures x.test.given.1 r'.command.ensures x'.first.given.1 r''.command2.ensures
-    c.before.joined.ensures c.joined2.ensures))
+    r.condition-test.ensures x.in-Read.is r'.command-first.ensures x'.in-Read-first.is r''.command-second.ensures
+    c.before.joined.ensures c.joined-2.ensures))
     (λ t. command_lts.spec (command_claims t) (at command t) command.post
     (λ c κs. search rules)
-    (λ c. rw (heads.command_past _ _ _ c.before.if1.true) (declines _ _ _ c.decline.ensures))
+    (λ c. rw (heads.command_past _ _ _ c.before.if-text-at.true) (declines _ _ _ c.decline.ensures))
     (λ c κs. search rules)
     (λ c.
-    let h : InCommand t command_lts.Else1 = search in
-    rw (heads.command_deep _ _ _ h.if1.left c.before.if2.true) (declines _ _ _ c.decline2.ensures))
+    let h : InCommand t command_lts.Else-text-at = search in
+    rw (heads.command_deep _ _ _ h.if-text-at.false c.before.if-nest-eq0.true) (declines _ _ _ c.decline-then-nest-eq0.ensures))
     (λ c. search rules)  -- the byte is there
     (λ c. search rules)
     (λ c. search rules)
@@ -206,96 +206,96 @@ unfolding command_of decline
     (λ c κs. search rules)  -- WHILE
     (λ c κs. search rules)
     (λ c.
-    let n : InCommand t command_lts.Else2 = search in
-    let h : InCommand t command_lts.Else1 = search in
-    rw (heads.command_at _ _ _ h.if1.left n.if2.left, is_skip c.match.keys1) (skip_told _ _ _))
+    let n : InCommand t command_lts.Else-nest-eq0 = search in
+    let h : InCommand t command_lts.Else-text-at = search in
+    rw (heads.command_at _ _ _ h.if-text-at.false n.if-nest-eq0.false, is_skip c.in-0.is) (skip_told _ _ _))
     (λ c.
-    let b : InCommand t command_lts.At-match-keys2 = search in
-    let n : InCommand t command_lts.Else2 = search in
-    let h : InCommand t command_lts.Else1 = search in
-    rw (heads.command_at _ _ _ h.if1.left n.if2.left, is_assignment b.match.keys2)
+    let b : InCommand t command_lts.In-1 = search in
+    let n : InCommand t command_lts.Else-nest-eq0 = search in
+    let h : InCommand t command_lts.Else-text-at = search in
+    rw (heads.command_at _ _ _ h.if-text-at.false n.if-nest-eq0.false, is_assignment b.in-1.is)
     c.assignment.ensures)
     (λ c.
-    let b : InCommand t command_lts.At-match-keys3 = search in
-    let n : InCommand t command_lts.Else2 = search in
-    let h : InCommand t command_lts.Else1 = search in
-    rw (heads.command_at _ _ _ h.if1.left n.if2.left, is_sequence b.match.keys3)
+    let b : InCommand t command_lts.In-2 = search in
+    let n : InCommand t command_lts.Else-nest-eq0 = search in
+    let h : InCommand t command_lts.Else-text-at = search in
+    rw (heads.command_at _ _ _ h.if-text-at.false n.if-nest-eq0.false, is_sequence b.in-2.is)
     c.sequence.ensures)
     (λ c.
-    let b : InCommand t command_lts.At-match-keys4 = search in
-    let n : InCommand t command_lts.Else2 = search in
-    let h : InCommand t command_lts.Else1 = search in
-    rw (heads.command_at _ _ _ h.if1.left n.if2.left, is_choice b.match.keys4)
+    let b : InCommand t command_lts.In-3 = search in
+    let n : InCommand t command_lts.Else-nest-eq0 = search in
+    let h : InCommand t command_lts.Else-text-at = search in
+    rw (heads.command_at _ _ _ h.if-text-at.false n.if-nest-eq0.false, is_choice b.in-3.is)
     c.choice.ensures)
     (λ c.
-    let b : InCommand t command_lts.At-match-keys5 = search in
-    let n : InCommand t command_lts.Else2 = search in
-    let h : InCommand t command_lts.Else1 = search in
-    rw (heads.command_at _ _ _ h.if1.left n.if2.left, is_loop b.match.keys5)
+    let b : InCommand t command_lts.In-4 = search in
+    let n : InCommand t command_lts.Else-nest-eq0 = search in
+    let h : InCommand t command_lts.Else-text-at = search in
+    rw (heads.command_at _ _ _ h.if-text-at.false n.if-nest-eq0.false, is_loop b.in-4.is)
     c.repetition.ensures)
     (λ c.
-    let n : InCommand t command_lts.Else2 = search in
-    let h : InCommand t command_lts.Else1 = search in
-    let no = c.before.match.rest in
+    let n : InCommand t command_lts.Else-nest-eq0 = search in
+    let h : InCommand t command_lts.Else-text-at = search in
+    let no = c.before.in_default.in_default-own.rest in
     rw (
-      heads.command_at _ _ _ h.if1.left n.if2.left,
+      heads.command_at _ _ _ h.if-text-at.false n.if-nest-eq0.false,
       is_no_command no.0.0.0.0.1 no.0.0.0.1 no.0.0.1 no.0.1 no.1,
     )
-    (declines _ _ _ c.decline3.ensures)))
+    (declines _ _ _ c.decline-in_default.ensures)))
     (λ t. repetition_lts.spec (repetition_claims t) (at repetition t) repetition.post
     (λ c. search rules)
     (λ c κs. search rules)  -- the condition
     (λ c. search rules)
     (λ c. search rules)
     (λ c.
-    let r : InRepetition t repetition_lts.After-condition = search in
-    first_ends _ commands (conditions false) (condition_reading _ _) _ _ _ _ _ _ r.condition.ensures
-    c.enum_told.given.1)
+    let r : InRepetition t repetition_lts.After-condition-test = search in
+    first_ends _ commands (conditions false) (condition_reading _ _) _ _ _ _ _ _ r.condition-test.ensures
+    c.in_default.is)
     (λ c κs.
-    let x : InRepetition t repetition_lts.After-test = search in
-    let r : InRepetition t repetition_lts.After-condition = search in
+    let x : InRepetition t repetition_lts.In-Read = search in
+    let r : InRepetition t repetition_lts.After-condition-test = search in
     let s : InRepetition t repetition_lts.Start = search in
-    (search rules, next_given (conditions false) _ s.pre.1.0 r.condition.ensures x.test.given.1))
+    (search rules, next_given (conditions false) _ s.requires.1.0 r.condition-test.ensures x.in-Read.is))
     (λ c κs.
-    let x : InRepetition t repetition_lts.After-test = search in
-    let r : InRepetition t repetition_lts.After-condition = search in
-    let k : InRepetition t repetition_lts.After-shared-slice-known = search in
+    let x : InRepetition t repetition_lts.In-Read = search in
+    let r : InRepetition t repetition_lts.After-condition-test = search in
+    let k : InRepetition t repetition_lts.After-shared_slice_known-1 = search in
     let s : InRepetition t repetition_lts.Start = search in
-    let bytes : Bytes s.args.text.now = λ i. (k.shared-slice-known.given i).fits in
-    let short = s.pre.1.0.short in
+    let bytes : Bytes s.args.text.now = λ i. (k.shared_slice_known-1.given i).fits in
+    let short = s.requires.1.0.short in
     room 4096 4096 _ _ _ _ (omega arith)
-    (rw x.test.given.1 at (condition_small _ bytes short _ _ _ _ _ _ r.condition.ensures))
+    (rw x.in-Read.is at (condition_small _ bytes short _ _ _ _ _ _ r.condition-test.ensures))
     (command_small _ bytes short _ _ _ _ _ c.command.ensures))
     (λ c.
-    let x : InRepetition t repetition_lts.After-test = search in
-    let r : InRepetition t repetition_lts.After-condition = search in
+    let x : InRepetition t repetition_lts.In-Read = search in
+    let r : InRepetition t repetition_lts.After-condition-test = search in
     two _ commands (conditions false) commands WHILE◌DO◌ (condition_reading _ _) (reading _ _) _ _ _ _ _ 1 0 loop_alike
-    r.condition.ensures x.test.given.1 c.before.command.ensures c.joined.ensures))
+    r.condition-test.ensures x.in-Read.is c.before.command.ensures c.joined.ensures))
     (λ t. sequence_lts.spec (sequence_claims t) (at sequence t) sequence.post
     (λ c. search rules)
     (λ c κs. search rules)  -- the first command
     (λ c. search rules)
     (λ c. search rules)
     (λ c.
-    let r : InSequence t sequence_lts.After-command = search in
-    first_ends _ commands commands (reading _ _) _ _ _ _ _ _ r.command.ensures c.enum_told.given.1)
+    let r : InSequence t sequence_lts.After-command-first = search in
+    first_ends _ commands commands (reading _ _) _ _ _ _ _ _ r.command-first.ensures c.in_default.is)
     (λ c κs.
-    let x : InSequence t sequence_lts.After-first = search in
-    let r : InSequence t sequence_lts.After-command = search in
+    let x : InSequence t sequence_lts.In-Read = search in
+    let r : InSequence t sequence_lts.After-command-first = search in
     let s : InSequence t sequence_lts.Start = search in
-    (search rules, next_given commands _ s.pre.1.0 r.command.ensures x.first.given.1))
+    (search rules, next_given commands _ s.requires.1.0 r.command-first.ensures x.in-Read.is))
     (λ c κs.
-    let x : InSequence t sequence_lts.After-first = search in
-    let r : InSequence t sequence_lts.After-command = search in
-    let k : InSequence t sequence_lts.After-shared-slice-known = search in
+    let x : InSequence t sequence_lts.In-Read = search in
+    let r : InSequence t sequence_lts.After-command-first = search in
+    let k : InSequence t sequence_lts.After-shared_slice_known-1 = search in
     let s : InSequence t sequence_lts.Start = search in
-    let bytes : Bytes s.args.text.now = λ i. (k.shared-slice-known.given i).fits in
-    let short = s.pre.1.0.short in
+    let bytes : Bytes s.args.text.now = λ i. (k.shared_slice_known-1.given i).fits in
+    let short = s.requires.1.0.short in
     room 4096 4096 _ _ _ _ (omega arith)
-    (rw x.first.given.1 at (command_small _ bytes short _ _ _ _ _ r.command.ensures))
-    (command_small _ bytes short _ _ _ _ _ c.command2.ensures))
+    (rw x.in-Read.is at (command_small _ bytes short _ _ _ _ _ r.command-first.ensures))
+    (command_small _ bytes short _ _ _ _ _ c.command.ensures))
     (λ c.
-    let x : InSequence t sequence_lts.After-first = search in
-    let r : InSequence t sequence_lts.After-command = search in
+    let x : InSequence t sequence_lts.In-Read = search in
+    let r : InSequence t sequence_lts.After-command-first = search in
     two _ commands commands commands ◌⨾◌ (reading _ _) (reading _ _) _ _ _ _ _ 0 0 sequence_alike
-    r.command.ensures x.first.given.1 c.before.command2.ensures c.joined.ensures))
+    r.command-first.ensures x.in-Read.is c.before.command-second.ensures c.joined.ensures))

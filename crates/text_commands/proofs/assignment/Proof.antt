@@ -36,24 +36,24 @@ assignment_spec =
     (λ c. search rules)
     (λ c. search rules)
     (λ c.
-    let r : tie.After-variable = search in
-    first_ends _ commands variables (operand _ 63) _ _ _ _ _ _ r.variable.ensures c.enum_told.given.1)
+    let r : tie.After-variable-first = search in
+    first_ends _ commands variables (operand _ 63) _ _ _ _ _ _ r.variable-first.ensures c.in_default.is)
     (λ c κs.
-    let x : tie.After-first = search in
-    let r : tie.After-variable = search in
+    let x : tie.In-Read = search in
+    let r : tie.After-variable-first = search in
     let s : tie.Start = search in
-    next_given variables _ s.pre.0 r.variable.ensures x.first.given.1)
+    next_given variables _ s.requires.0 r.variable-first.ensures x.in-Read.is)
     (λ c κs.
-    let x : tie.After-first = search in
-    let r : tie.After-variable = search in
-    let k : tie.After-shared-slice-known = search in
+    let x : tie.In-Read = search in
+    let r : tie.After-variable-first = search in
+    let k : tie.After-shared_slice_known-1 = search in
     let s : tie.Start = search in
-    let bytes : Bytes s.args.text.now = λ i. (k.shared-slice-known.given i).fits in
+    let bytes : Bytes s.args.text.now = λ i. (k.shared_slice_known-1.given i).fits in
     room 4096 4096 _ _ _ _ (omega arith)
-    (rw x.first.given.1 at (variable_small (operand _ 63 _) _ _ _ r.variable.ensures))
-    (expression_small _ bytes s.pre.0.short _ _ _ _ _ c.expression.ensures))
+    (rw x.in-Read.is at (variable_small (operand _ 63 _) _ _ _ r.variable-first.ensures))
+    (expression_small _ bytes s.requires.0.short _ _ _ _ _ c.expression.ensures))
     (λ c.
-    let x : tie.After-first = search in
-    let r : tie.After-variable = search in
+    let x : tie.In-Read = search in
+    let r : tie.After-variable-first = search in
     two _ commands variables expressions ◌:=◌ (operand _ 63) (expression _ _) _ _ _ _ _ 0 0 assignment_alike
-    r.variable.ensures x.first.given.1 c.before.expression.ensures c.joined.ensures))
+    r.variable-first.ensures x.in-Read.is c.before.expression.ensures c.joined.ensures))

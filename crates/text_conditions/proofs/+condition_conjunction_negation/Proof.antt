@@ -17,8 +17,8 @@ use Rattle.text.proofs.Heads.{is_truth, is_negation, is_conjunction, is_comparis
 use Rattle.text_conditions.specs.Code.{conditions, values}
 use Rattle.text_conditions.proofs.Parts.{next_given, after, Alike, declines, one, first_ends, two}
 use Rattle.text_conditions.proofs.Bounds.{room, condition_small}
-use Rattle.text_conditions.proofs.condition-first.Reads as condition_reads
-use Rattle.text_conditions.proofs.condition-first.Kinds as condition_kinds
+use Rattle.text_conditions.proofs.condition.Reads as condition_reads
+use Rattle.text_conditions.proofs.condition.Kinds as condition_kinds
 use Rattle.text_conditions.proofs.+condition_conjunction_negation.Lts-condition as condition_lts
 use Rattle.text_conditions.proofs.conjunction.Reads as conjunction_reads
 use Rattle.text_conditions.proofs.conjunction.Kinds as conjunction_kinds
@@ -102,7 +102,7 @@ unfolding condition_of decline
     (λ c κs. search rules)
     (λ c.
     let h : InCondition t condition_lts.Else-text-at = search in
-    rw (heads.condition_deep _ _ _ h.if-text-at.left c.before.if-nest-eq0.true) (declines _ _ _ c.decline-then-nest-eq0.ensures))
+    rw (heads.condition_deep _ _ _ h.if-text-at.false c.before.if-nest-eq0.true) (declines _ _ _ c.decline-then-nest-eq0.ensures))
     (λ c. search rules)  -- the byte is there
     (λ c. search rules)
     (λ c κs. search rules)  -- Bc's value
@@ -118,33 +118,33 @@ unfolding condition_of decline
     let h : InCondition t condition_lts.Else-text-at = search in
     let s : InCondition t condition_lts.Start = search in
     let flag = s.args.flag in
-    rw (heads.condition_at _ _ _ h.if-text-at.left n.if-nest-eq0.left, is_truth c.before.in-32.is)
+    rw (heads.condition_at _ _ _ h.if-text-at.false n.if-nest-eq0.false, is_truth c.before.in-32.is)
     (one _ (conditions flag) (values flag) (λ v. Bc (eqb v 1)) (operand _ 1) _ _ _ _ (value_alike flag)
     (c.value.ensures _)))
     (λ c.
     let b : InCondition t condition_lts.In-33 = search in
     let n : InCondition t condition_lts.Else-nest-eq0 = search in
     let h : InCondition t condition_lts.Else-text-at = search in
-    rw (heads.condition_at _ _ _ h.if-text-at.left n.if-nest-eq0.left, is_negation b.in-33.is)
+    rw (heads.condition_at _ _ _ h.if-text-at.false n.if-nest-eq0.false, is_negation b.in-33.is)
     c.negation.ensures)
     (λ c.
     let b : InCondition t condition_lts.In-34 = search in
     let n : InCondition t condition_lts.Else-nest-eq0 = search in
     let h : InCondition t condition_lts.Else-text-at = search in
-    rw (heads.condition_at _ _ _ h.if-text-at.left n.if-nest-eq0.left, is_conjunction b.in-34.is)
+    rw (heads.condition_at _ _ _ h.if-text-at.false n.if-nest-eq0.false, is_conjunction b.in-34.is)
     c.conjunction.ensures)
     (λ c.
     let b : InCondition t condition_lts.In-35 = search in
     let n : InCondition t condition_lts.Else-nest-eq0 = search in
     let h : InCondition t condition_lts.Else-text-at = search in
-    rw (heads.condition_at _ _ _ h.if-text-at.left n.if-nest-eq0.left, is_comparison b.in-35.is)
+    rw (heads.condition_at _ _ _ h.if-text-at.false n.if-nest-eq0.false, is_comparison b.in-35.is)
     (c.two_expressions.ensures.1 _))
     (λ c.
     let n : InCondition t condition_lts.Else-nest-eq0 = search in
     let h : InCondition t condition_lts.Else-text-at = search in
-    let no = c.before.match.rest in
+    let no = c.before.in_default.in_default-own.rest in
     rw (
-      heads.condition_at _ _ _ h.if-text-at.left n.if-nest-eq0.left,
+      heads.condition_at _ _ _ h.if-text-at.false n.if-nest-eq0.false,
       is_no_condition no.0.0.0.1 no.0.0.1 no.0.1 no.1,
     )
     (declines _ _ _ c.decline-in_default.ensures)))
@@ -157,19 +157,19 @@ unfolding condition_of decline
     let r : InConjunction t conjunction_lts.After-condition-first = search in
     let s : InConjunction t conjunction_lts.Start = search in
     first_ends _ (conditions s.args.flag) (conditions false) (reading _ _) _ _ _ _ _ _
-    r.condition-first.ensures c.enum_told.given.1)
+    r.condition-first.ensures c.in_default.is)
     (λ c κs.
     let x : InConjunction t conjunction_lts.In-Read = search in
     let r : InConjunction t conjunction_lts.After-condition-first = search in
     let s : InConjunction t conjunction_lts.Start = search in
-    (search rules, next_given (conditions false) _ s.pre.1.0 r.condition-first.ensures x.in-Read.is))
+    (search rules, next_given (conditions false) _ s.requires.1.0 r.condition-first.ensures x.in-Read.is))
     (λ c κs.
     let x : InConjunction t conjunction_lts.In-Read = search in
     let r : InConjunction t conjunction_lts.After-condition-first = search in
     let k : InConjunction t conjunction_lts.After-shared_slice_known-1 = search in
     let s : InConjunction t conjunction_lts.Start = search in
     let bytes : Bytes s.args.text.now = λ i. (k.shared_slice_known-1.given i).fits in
-    let short = s.pre.1.0.short in
+    let short = s.requires.1.0.short in
     room 4096 4096 _ _ _ _ (omega arith)
     (rw x.in-Read.is at (condition_small _ bytes short _ _ _ _ _ _ r.condition-first.ensures))
     (condition_small _ bytes short _ _ _ _ _ _ c.condition.ensures))
@@ -188,4 +188,4 @@ unfolding condition_of decline
     let s : InNegation t negation_lts.Start = search in
     let flag = s.args.flag in
     one _ (conditions flag) (conditions (not flag)) Not (reading _ _) _ _ _ _ (not_alike flag)
-    c.condition-first.ensures))
+    c.condition.ensures))

@@ -18,8 +18,8 @@ use Rattle.text.proofs.Heads.{is_variable, is_plus}
 use Rattle.text_conditions.specs.Code.{expressions, conditions, variables}
 use Rattle.text_conditions.proofs.Parts.{next_given, after, Alike, declines, one, first_ends, two, constant_told}
 use Rattle.text_conditions.proofs.Bounds.{room, expression_small}
-use Rattle.text_conditions.proofs.expression-first.Reads as expression_reads
-use Rattle.text_conditions.proofs.expression-first.Kinds as expression_kinds
+use Rattle.text_conditions.proofs.expression.Reads as expression_reads
+use Rattle.text_conditions.proofs.expression.Kinds as expression_kinds
 use Rattle.text_conditions.proofs.+expression_two_expressions.Lts-expression as expression_lts
 use Rattle.text_conditions.proofs.two_expressions.Reads as two_expressions_reads
 use Rattle.text_conditions.proofs.two_expressions.Kinds as two_expressions_kinds
@@ -91,7 +91,7 @@ unfolding expression_of condition_of decline
     (λ c κs. search rules)
     (λ c.
     let h : InExpression t expression_lts.Else-text-at = search in
-    rw (heads.expression_deep _ _ _ h.if-text-at.left c.before.if-nest-eq0.true) (declines _ _ _ c.decline-then-nest-eq0.ensures))
+    rw (heads.expression_deep _ _ _ h.if-text-at.false c.before.if-nest-eq0.true) (declines _ _ _ c.decline-then-nest-eq0.ensures))
     (λ c. search rules)  -- the byte is there
     (λ c κs. search rules)  -- constant
     (λ c. search rules)
@@ -100,29 +100,29 @@ unfolding expression_of condition_of decline
     (λ c κs. search rules)  -- Plus
     (λ c κs.
     let h : InExpression t expression_lts.Else-text-at = search in
-    let no = c.match.rest in
-    (h.if-text-at.left, (no.0.0.1, (no.0.1, no.1))))  -- neither
+    let no = c.in_default.in_default-own.rest in
+    (h.if-text-at.false, (no.0.0.1, (no.0.1, no.1))))  -- neither
     (λ c.
     let n : InExpression t expression_lts.Else-nest-eq0 = search in
     let h : InExpression t expression_lts.Else-text-at = search in
-    rw (heads.expression_at _ _ _ h.if-text-at.left n.if-nest-eq0.left)
+    rw (heads.expression_at _ _ _ h.if-text-at.false n.if-nest-eq0.false)
     (constant_told _ _ _ _ _ (inl c.before.in-16.is) (c.constant.ensures _)))
     (λ c.
     let b : InExpression t expression_lts.In-17 = search in
     let n : InExpression t expression_lts.Else-nest-eq0 = search in
     let h : InExpression t expression_lts.Else-text-at = search in
-    rw (heads.expression_at _ _ _ h.if-text-at.left n.if-nest-eq0.left, is_variable b.in-17.is)
+    rw (heads.expression_at _ _ _ h.if-text-at.false n.if-nest-eq0.false, is_variable b.in-17.is)
     (one _ expressions variables Variable (operand _ 63) _ _ _ _ variable_alike c.variable.ensures))
     (λ c.
     let b : InExpression t expression_lts.In-18 = search in
     let n : InExpression t expression_lts.Else-nest-eq0 = search in
     let h : InExpression t expression_lts.Else-text-at = search in
-    rw (heads.expression_at _ _ _ h.if-text-at.left n.if-nest-eq0.left, is_plus b.in-18.is)
+    rw (heads.expression_at _ _ _ h.if-text-at.false n.if-nest-eq0.false, is_plus b.in-18.is)
     c.two_expressions.ensures.0)
     (λ c.
     let n : InExpression t expression_lts.Else-nest-eq0 = search in
     let h : InExpression t expression_lts.Else-text-at = search in
-    rw (heads.expression_at _ _ _ h.if-text-at.left n.if-nest-eq0.left) (c.one_byte_constant.ensures _ _)))
+    rw (heads.expression_at _ _ _ h.if-text-at.false n.if-nest-eq0.false) (c.one_byte_constant.ensures _ _)))
     (λ t. two_expressions_lts.spec (two_expressions_claims t) (at two_expressions t) two_expressions.post
     (λ c. search rules)
     (λ c κs. search rules)  -- the first expression
@@ -131,7 +131,7 @@ unfolding expression_of condition_of decline
     (λ c.
     let r : InTwoExpressions t two_expressions_lts.After-expression-first = search in
     let first = r.expression-first.ensures in
-    let no = c.enum_told.given.1 in (
+    let no = c.in_default.is in (
       first_ends _ expressions expressions (reading _ _) _ _ _ _ _ _ first no,
       λ flag. first_ends _ (conditions flag) expressions (reading _ _) _ _ _ _ _ _ first no,
     ))
@@ -139,14 +139,14 @@ unfolding expression_of condition_of decline
     let x : InTwoExpressions t two_expressions_lts.In-Read = search in
     let r : InTwoExpressions t two_expressions_lts.After-expression-first = search in
     let s : InTwoExpressions t two_expressions_lts.Start = search in
-    (search rules, next_given expressions _ s.pre.1.0 r.expression-first.ensures x.in-Read.is))
+    (search rules, next_given expressions _ s.requires.1.0 r.expression-first.ensures x.in-Read.is))
     (λ c κs.
     let x : InTwoExpressions t two_expressions_lts.In-Read = search in
     let r : InTwoExpressions t two_expressions_lts.After-expression-first = search in
     let k : InTwoExpressions t two_expressions_lts.After-shared_slice_known-1 = search in
     let s : InTwoExpressions t two_expressions_lts.Start = search in
     let bytes : Bytes s.args.text.now = λ i. (k.shared_slice_known-1.given i).fits in
-    let short = s.pre.1.0.short in
+    let short = s.requires.1.0.short in
     room 4096 4096 _ _ _ _ (omega arith)
     (rw x.in-Read.is at (expression_small _ bytes short _ _ _ _ _ r.expression-first.ensures))
     (expression_small _ bytes short _ _ _ _ _ c.expression.ensures))

@@ -12,7 +12,7 @@ joined_spec =
     (tie.spec
     (λ c. search rules)
     (λ c. search rules)
-    (λ c. rw c.enum_told.given.1)
+    (λ c. rw c.in_default.is)
     (λ c. search rules)
     (λ c. search rules)
     (λ c. let f : tie.In-Read = search in rw (f.in-Read.is, c.in_default-second.is))
@@ -20,17 +20,17 @@ joined_spec =
     let s : tie.In-Read-second = search in
     let f : tie.In-Read = search in
     let b : tie.Start = search in
-    omega (arith, rw (f.in-Read.is, s.in-Read-second.is) at b.pre))
+    omega (arith, rw (f.in-Read.is, s.in-Read-second.is) at b.requires))
     (λ c.
     let s : tie.In-Read-second = search in
     let f : tie.In-Read = search in
     let b : tie.Start = search in
-    omega (arith, rw (f.in-Read.is, s.in-Read-second.is) at b.pre))
+    omega (arith, rw (f.in-Read.is, s.in-Read-second.is) at b.requires))
     (λ c.
     let s : tie.In-Read-second = search in
     let f : tie.In-Read = search in
     let b : tie.Start = search in
-    omega (arith, rw (f.in-Read.is, s.in-Read-second.is) at b.pre))
+    omega (arith, rw (f.in-Read.is, s.in-Read-second.is) at b.requires))
     (λ c κs. search rules)
     (λ c.
     let s : tie.In-Read-second = search in

@@ -31,14 +31,14 @@ one_byte_constant_spec =
     (λ c nest m.
     let low : tie.Then-byte-lt-CONSTANT = search in
     let s : tie.Start = search in
-    let no = s.pre.1 in
+    let no = s.requires.1 in
     rw (is_no_expression no.0 no.1.0 no.1.1 (below low.if-byte-lt-CONSTANT.true))
     (declines expressions m m c.decline.ensures))
     (λ c κs. search rules)
     (λ c nest m.
     let high : tie.Then-byte-gt-ONE_BYTE_CONSTANT = search in
     let s : tie.Start = search in
-    let no = s.pre.1 in
+    let no = s.requires.1 in
     rw (is_no_expression no.0 no.1.0 no.1.1 (above high.if-byte-gt-ONE_BYTE_CONSTANT.true))
     (declines expressions m m c.decline-then-byte-gt-ONE_BYTE_CONSTANT.ensures))
     (λ c κs. search rules)
@@ -46,6 +46,6 @@ one_byte_constant_spec =
     let high : tie.Else-byte-gt-ONE_BYTE_CONSTANT = search in
     let low : tie.Else-byte-lt-CONSTANT = search in
     let s : tie.Start = search in
-    let no = s.pre.1 in
-    let byte = thirteen _ low.if-byte-lt-CONSTANT.left high.if-byte-gt-ONE_BYTE_CONSTANT.left no.0 no.1.0 no.1.1 in
+    let no = s.requires.1 in
+    let byte = thirteen _ low.if-byte-lt-CONSTANT.false high.if-byte-gt-ONE_BYTE_CONSTANT.false no.0 no.1.0 no.1.1 in
     constant_told _ nest _ _ m (inr byte) (c.constant.ensures m)))

@@ -37,7 +37,7 @@ value_spec =
     let a = s.args in
     rw (
       le-leb (a.at + 1) (length a.text.now) (omega arith),
-      le-leb _ 1 small.if-v-gt1.left,
+      le-leb _ 1 small.if-v-gt1.false,
       c.value_records.ensures,
     )
     (tells (values a.flag) _ _ _ _ (noted_none m))))

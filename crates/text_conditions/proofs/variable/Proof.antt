@@ -36,5 +36,5 @@ variable_spec =
     let small : tie.Else-v-gt-LAST_VARIABLE = search in
     let s : tie.Start = search in
     let a = s.args in
-    rw (le-leb (a.at + 1) (length a.text.now) (omega arith), le-leb _ 63 small.if-v-gt-LAST_VARIABLE.left)
-    (tells variables _ _ _ _ (noted_one _ _ s.pre (omega arith)))))
+    rw (le-leb (a.at + 1) (length a.text.now) (omega arith), le-leb _ 63 small.if-v-gt-LAST_VARIABLE.false)
+    (tells variables _ _ _ _ (noted_one _ _ s.requires (omega arith)))))

@@ -51,7 +51,7 @@ first_loop_spec =
     omega (
       arith,
       found_later 0x04 s.args.text.now turn.loop-at.at on.loop-at-test.true
-          off.if-text-at-eq-WHILE.left,
+          off.if-text-at-eq-WHILE.false,
       turn.loop-at.invariant,
     ))
     -- returns-3

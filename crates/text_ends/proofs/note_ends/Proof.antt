@@ -32,7 +32,7 @@ note_ends_spec =
     -- loop-holds
     (λ c.
     let s : tie.Start invariant-loop-at decreases-loop-at = search in
-    record { right = s.pre.0; first = λ n. s.pre.1; long = refl; inside = omega arith })
+    record { right = s.requires.0; first = λ n. s.requires.1; long = refl; inside = omega arith })
     (λ c. search rules)
     -- end-at-requires
     (λ c κs.

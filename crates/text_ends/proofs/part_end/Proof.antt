@@ -16,6 +16,6 @@ part_end_spec =
     let s : tie.Start = search in
     let e = k.recall-known.ensures in
     subst (Row s.args.text.now s.args.start 1) (sym e)
-    (s.pre.1.right s.args.start (λ z. c.if-known-ne0.true (e ∙ z))))
+    (s.requires.1.right s.args.start (λ z. c.if-known-ne0.true (e ∙ z))))
     (λ c κs. search rules)
     (λ c. search rules))

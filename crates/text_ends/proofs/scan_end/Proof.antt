@@ -71,7 +71,7 @@ module _ (t : Due) where
 pair : (c : tie.In_default invariant-loop-due decreases-loop-due) → Goes c.before.before 1 (due c.before.before + 1)
 pair c =
     let t : Due = search in
-    let r = c.match.rest in
+    let r = c.in_default.in_default-own.rest in
     turn_rest (l t).loop-due.invariant t.loop-due-test.true r.0.0.0.0.0.1 r.0.0.0.0.1 r.0.0.0.1
     r.0.0.1 (λ e. r.0.1 (inl e)) (λ e. r.0.1 (inr e)) r.1 _ (omega arith)
 

@@ -32,7 +32,7 @@ unfolding tell
 paused c memory =
     let s : tie.Start = search in
     let m = s.args.self.machine in
-    ap (λ (e : End). gives (tell (end_of e) m.count m.mark (machine_of m memory))) (sym c.enum_told.given.1)
+    ap (λ (e : End). gives (tell (end_of e) m.count m.mark (machine_of m memory))) (sym c.in-Spent.is)
 
 -- the ends but Spent, by their places in the enum
 abbrev others : List ℕ
@@ -42,7 +42,7 @@ ended : tie.Need-returns-in_default
 ended c memory =
     let s : tie.Start = search in
     told_end s.args.self.end _ _ (machine_of s.args.self.machine memory)
-    (λ is. miss others 1 tt (subst (λ (e : End). OneOf others (tag_of the_type e)) is c.match.keys2))
+    (λ is. miss others 1 tt (subst (λ (e : End). OneOf others (tag_of the_type e)) is c.in_default.in_default-own.keys2))
 
 pub piece_spec : {M : Type 1} → statement M
 piece_spec = tie.close (tie.spec (λ c. search rules) paused ended)

@@ -14,7 +14,7 @@ use Rattle.machine_step.proofs.Machine.add.Tie as tie
 
 -- where the record is done
 abbrev here : (s : tie.Start) → List ℤ → let l = s.args.limits.layout in Place (Lent l) (Named l)
-here s store = place s.args.self s.requires.held s.args.limits store s.args.lent-1.now
+here s store = place s.args.self s.requires.held s.args.limits store s.args.lent.now
 
 short : tie.Need-returns-then-size-lt2
 short c store =
@@ -31,12 +31,12 @@ pushed c store =
     let test : tie.Else-size-lt2 = search in
     let s : tie.Start = search in
     let l = s.args.limits in
-    let lent = s.args.lent-1.now in
+    let lent = s.args.lent.now in
     add_pushed (here s store) c.moves.ensures
     (poked l store lent (s.args.self.size - 2) (to_z w32 (of_z w32 sum.add.result)) put.poke.ensures)
-    test.if-size-lt2.left s.pre.marked
-    (summed (here s store) (read_back w32 sum.add.ok sum.add.ensures)
-    (peeked l store lent _ x.peek-second.ok x.peek-second.ensures) (peeked l store lent _ y.peek-top.ok y.peek-top.ensures))
+    test.if-size-lt2.false s.requires.marked
+    (summed (here s store) (read_back w32 sum.add.type_inv sum.add.ensures)
+    (peeked l store lent _ x.peek-second.type_inv x.peek-second.ensures) (peeked l store lent _ y.peek-top.type_inv y.peek-top.ensures))
 
 pub add_spec : {M : Type 1} → statement M
 add_spec =

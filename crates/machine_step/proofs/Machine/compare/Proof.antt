@@ -31,8 +31,8 @@ lands c store =
     let l = s.args.limits in
     let lent = s.args.lent.now in
     compare_landed (here s store) s.args.flag c.jumps.ensures (to_z-of_z s.ranges.operand) test.if-size-lt2.false
-    (compared (here s store) less.less.ensures (peeked l store lent _ x.peek-second.ok x.peek-second.ensures)
-    (peeked l store lent _ y.peek-top.ok y.peek-top.ensures) (same_flag _ _ taken.if-less-flag.true))
+    (compared (here s store) less.less.ensures (peeked l store lent _ x.peek-second.type_inv x.peek-second.ensures)
+    (peeked l store lent _ y.peek-top.type_inv y.peek-top.ensures) (same_flag _ _ taken.if-less-flag.true))
 
 passed : tie.Need-returns
 passed c store =
@@ -45,8 +45,8 @@ passed c store =
     let l = s.args.limits in
     let lent = s.args.lent.now in
     compare_passes (here s store) s.args.flag s.args.operand c.moves.ensures test.if-size-lt2.false
-    (compared (here s store) less.less.ensures (peeked l store lent _ x.peek-second.type-inv x.peek-second.ensures)
-    (peeked l store lent _ y.peek-top.ok y.peek-top.ensures) (other_flag _ _ off.if-less-flag.left))
+    (compared (here s store) less.less.ensures (peeked l store lent _ x.peek-second.type_inv x.peek-second.ensures)
+    (peeked l store lent _ y.peek-top.type_inv y.peek-top.ensures) (other_flag _ _ off.if-less-flag.false))
 
 pub compare_spec : {M : Type 1} → statement M
 compare_spec =

@@ -31,7 +31,7 @@ astray : tie.Need-returns-in-Astray
 astray c =
     let j : tie.After-jump = search in
     let s : tie.Start = search in
-    c.stops.ensures ∙ ap (landed s.args.self s.args.size) (sym c.before.enum_told.given.1 ∙ aimed j)
+    c.stops.ensures ∙ ap (landed s.args.self s.args.size) (sym c.before.in-Astray.is ∙ aimed j)
 
 pub jumps_spec : {M : Type 1} → statement M
 jumps_spec =

@@ -12,7 +12,7 @@ use Rattle.machine_step.proofs.Machine.loadi.Tie as tie
 
 -- where the record is done
 abbrev here : (s : tie.Start) → List ℤ → let l = s.args.limits.layout in Place (Lent l) (Named l)
-here s store = place s.args.self s.requires.held s.args.limits store s.args.lent-1.now
+here s store = place s.args.self s.requires.held s.args.limits store s.args.lent.now
 
 below : tie.Need-returns-then-size-self
 below c store =
@@ -20,8 +20,8 @@ below c store =
     let test : tie.Then-size-self = search in
     let s : tie.Start = search in
     loadi_pushed (here s store) c.moves.ensures (omega (arith, test.if-size-self.true))
-    (poked s.args.limits store s.args.lent-1.now s.args.self.size _ put.poke.ensures)
-    (to_z-of_z s.fits.z) (omega (arith, test.if-size-self.true, s.pre.marked))
+    (poked s.args.limits store s.args.lent.now s.args.self.size _ put.poke.ensures)
+    (to_z-of_z s.ranges.z) (omega (arith, test.if-size-self.true, s.requires.marked))
 
 full : tie.Need-returns-then-limits-size
 full c store =
@@ -35,9 +35,9 @@ raised c store =
     let room : tie.Else-limits-size = search in
     let test : tie.Else-size-self = search in
     let s : tie.Start = search in
-    loadi_pushed (here s store) c.moves-2.ensures (omega (arith, test.if-size-self.left))
-    (poked s.args.limits store s.args.lent-1.now s.args.self.size _ put.poke-2.ensures)
-    (to_z-of_z s.fits.z) room.if-limits-size.left
+    loadi_pushed (here s store) c.moves-2.ensures (omega (arith, test.if-size-self.false))
+    (poked s.args.limits store s.args.lent.now s.args.self.size _ put.poke-2.ensures)
+    (to_z-of_z s.ranges.z) room.if-limits-size.false
 
 pub loadi_spec : {M : Type 1} → statement M
 loadi_spec =

@@ -36,7 +36,7 @@ module _ (b : tie.After-byte_at) where
   code = start.args.code.now
 
   abbrev memory : List ℤ
-  memory = start.args.memory-1.now
+  memory = start.args.memory.now
 
   abbrev position : ℕ
   position = start.args.self.position
@@ -55,7 +55,7 @@ module _ (b : tie.After-byte_at) where
 
   -- n is at most 64
   at_most_64 : (n : ℕ) → length memory ≡ start.args.depth + 1 + n → n ≤ 64
-  at_most_64 n long = omega (arith, start.pre.1.small, start.pre.1.cells_are)
+  at_most_64 n long = omega (arith, start.requires.1.small, start.requires.1.cells_are)
 
   -- what did another form of the record due did the record due
   as_due : {stepped : Stepped (List ℤ)} {x r : Record Address} → x ≡ r → stepped ≡ did x → stepped ≡ did r
@@ -79,7 +79,7 @@ module _ (b : tie.After-byte_at) where
   load_in_memory : b.byte_at.result ≡ 0x51 → start.args.depth + low < length memory
   unfolding operation
   load_in_memory e =
-      let p = start.pre.1 in
+      let p = start.requires.1 in
       in_memory
       (is_load (machine_kind p.n) code position now_due.due now_due.there (below_256 p.n p.small)
       (read_as 0x51 e)).0
@@ -87,7 +87,7 @@ module _ (b : tie.After-byte_at) where
   store_in_memory : b.byte_at.result ≡ 0x53 → start.args.depth + low < length memory
   unfolding operation
   store_in_memory e =
-      let p = start.pre.1 in
+      let p = start.requires.1 in
       in_memory
       (is_store (machine_kind p.n) code position now_due.due now_due.there (below_256 p.n p.small)
       (read_as 0x53 e)).0
@@ -116,7 +116,7 @@ loadi c n r long there =
     let arm : tie.In-80 = search in
     let b : tie.After-byte_at = search in
     as_due b
-    (ap LOADI (read_back w32 z.Operand-at.ok z.Operand-at.ensures)
+    (ap LOADI (read_back w32 z.operand_at.type_inv z.operand_at.ensures)
     ∙ sym (is_loadi (machine_kind n) (code b) (position b) r there (read_as b 0x50 arm.in-80.is)))
     (made.loadi.ensures [])
 
@@ -132,7 +132,7 @@ load c n r long there =
     (ap (λ (u : ℕ). LOAD (address u)) u.name_at.ensures
     ∙ sym (is_load (machine_kind n) (code b) (position b) r there (below_256 n (at_most_64 b n long))
     (read_as b 0x51 arm.in-81.is)).1)
-    (load_pushed (here b) (address u.name_at.result) (read_back w32 z.value_at-z.ok z.value_at-z.ensures)
+    (load_pushed (here b) (address u.name_at.result) (read_back w32 z.value_at-z.type_inv z.value_at-z.ensures)
     (made.loadi-in-81.ensures []))
 
 add : tie.Need-returns-in-82
@@ -166,7 +166,7 @@ jmp c n r long there =
     let b : tie.After-byte_at = search in
     as_due b
     (sym (is_jmp (machine_kind n) (code b) (position b) r there (read_as b 0x54 arm.in-84.is)))
-    (jmp_landed (here b) c.jumps.ensures (read_back w32 z.operand_at-in-84.ok z.operand_at-in-84.ensures))
+    (jmp_landed (here b) c.jumps.ensures (read_back w32 z.operand_at-in-84.type_inv z.operand_at-in-84.ensures))
 
 jmpless : tie.Need-returns-in-85
 unfolding operation
@@ -175,7 +175,7 @@ jmpless c n r long there =
     let arm : tie.In-85 = search in
     let b : tie.After-byte_at = search in
     as_due b
-    (ap (comparing true) (read_back w32 z.operand_at-in-85.ok z.operand_at-in-85.ensures)
+    (ap (comparing true) (read_back w32 z.operand_at-in-85.type_inv z.operand_at-in-85.ensures)
     ∙ sym (is_jmpless (machine_kind n) (code b) (position b) r there (read_as b 0x55 arm.in-85.is)))
     (c.compare.ensures [])
 
@@ -184,10 +184,10 @@ jmpge c n r long there =
     let z : tie.After-operand_at-in_default = search in
     let arm : tie.In_default = search in
     let b : tie.After-byte_at = search in
-    let no = arm.match.rest in
+    let no = arm.in_default.in_default-own.rest in
     let is = b.byte_at.ensures in
     as_due b
-    (ap (comparing false) (read_back w32 z.operand_at-in_default.ok z.operand_at-in_default.ensures)
+    (ap (comparing false) (read_back w32 z.operand_at-in_default.type_inv z.operand_at-in_default.ensures)
     ∙ sym
     (is_jmpge (machine_kind n) (code b) (position b) r there
     (λ e. no.0.0.0.0.0.1 (is ∙ e))

@@ -37,10 +37,10 @@ module _ (b : tie.After-byte_at) where
   code = start.args.code.now
 
   abbrev variables : List ℤ
-  variables = start.args.store-1.now
+  variables = start.args.store.now
 
   abbrev stack : List ℤ
-  stack = start.args.stack-1.now
+  stack = start.args.stack.now
 
   abbrev position : ℕ
   position = start.args.self.position
@@ -73,7 +73,7 @@ module _ (b : tie.After-byte_at) where
 
   -- the variable that it names is a cell of the store
   in_store : assembly_kind.is_name low ≡ true → low < length variables
-  in_store e = omega (arith, variable_at_most low e, start.pre.1.sized)
+  in_store e = omega (arith, variable_at_most low e, start.requires.1.sized)
 
   load_in_store : b.byte_at.result ≡ 0x41 → low < length variables
   unfolding operation
@@ -109,7 +109,7 @@ loadi c r there =
     let arm : tie.In-64 = search in
     let b : tie.After-byte_at = search in
     as_due b
-    (ap LOADI (read_back w32 z.Operand-at.ok z.Operand-at.ensures)
+    (ap LOADI (read_back w32 z.operand_at.type_inv z.operand_at.ensures)
     ∙ sym (is_loadi assembly_kind (code b) (position b) r there (read_as b 0x40 arm.in-64.is)))
     (made.loadi.ensures (variables b))
 
@@ -125,7 +125,7 @@ load c r there =
     (ap (λ (u : ℕ). LOAD (variable u)) u.name_at.ensures
     ∙ sym (is_load assembly_kind (code b) (position b) r there below_256
     (read_as b 0x41 arm.in-65.is)).1)
-    (load_pushed (here b) (variable u.name_at.result) (read_back w32 z.value_in-z.ok z.value_in-z.ensures)
+    (load_pushed (here b) (variable u.name_at.result) (read_back w32 z.value_in-z.type_inv z.value_in-z.ensures)
     (made.loadi-in-65.ensures (variables b)))
 
 add : tie.Need-returns-in-66
@@ -159,7 +159,7 @@ jmp c r there =
     let b : tie.After-byte_at = search in
     as_due b
     (sym (is_jmp assembly_kind (code b) (position b) r there (read_as b 0x44 arm.in-68.is)))
-    (jmp_landed (here b) c.jumps.ensures (read_back w32 z.operand_at-in-68.ok z.operand_at-in-68.ensures))
+    (jmp_landed (here b) c.jumps.ensures (read_back w32 z.operand_at-in-68.type_inv z.operand_at-in-68.ensures))
 
 jmpless : tie.Need-returns-in-69
 unfolding operation
@@ -168,7 +168,7 @@ jmpless c r there =
     let arm : tie.In-69 = search in
     let b : tie.After-byte_at = search in
     as_due b
-    (ap (comparing true) (read_back w32 z.operand_at-in-69.ok z.operand_at-in-69.ensures)
+    (ap (comparing true) (read_back w32 z.operand_at-in-69.type_inv z.operand_at-in-69.ensures)
     ∙ sym (is_jmpless assembly_kind (code b) (position b) r there (read_as b 0x45 arm.in-69.is)))
     (c.compare.ensures (variables b))
 
@@ -177,10 +177,10 @@ jmpge c r there =
     let z : tie.After-operand_at-in_default = search in
     let arm : tie.In_default = search in
     let b : tie.After-byte_at = search in
-    let no = arm.match.rest in
+    let no = arm.in_default.in_default-own.rest in
     let is = b.byte_at.ensures in
     as_due b
-    (ap (comparing false) (read_back w32 z.operand_at-in_default.ok z.operand_at-in_default.ensures)
+    (ap (comparing false) (read_back w32 z.operand_at-in_default.type_inv z.operand_at-in_default.ensures)
     ∙ sym
     (is_jmpge assembly_kind (code b) (position b) r there
     (λ e. no.0.0.0.0.0.1 (is ∙ e))

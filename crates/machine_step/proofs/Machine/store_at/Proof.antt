@@ -20,7 +20,7 @@ use Rattle.machine_step.proofs.Machine.store_at.Tie as tie
 abbrev here : tie.Start → Place (List ℤ) Address
 here s =
     let x = s.args.limits in
-    place s.args.self s.requires.0.0.held (downward x.depth x.last) [] s.args.memory-1.now
+    place s.args.self s.requires.0.0.held (downward x.depth x.last) [] s.args.memory.now
 
 short : tie.Need-returns-then-size-lt1
 short c =
@@ -36,10 +36,10 @@ saved c =
     let s : tie.Start = search in
     let x = s.args.limits in
     store_saved (here s) s.args.address c.moves.ensures put.save_at.ensures
-    (read_back w32 read.peek-z.ok read.peek-z.ensures
-    ∙ ap (λ (l : Layout). get_or s.args.memory-1.now (index_of l x.depth (s.args.self.size - 1)) (pos 0))
-    s.pre.0.1)
-    test.if-size-lt1.left
+    (read_back w32 read.peek-z.type_inv read.peek-z.ensures
+    ∙ ap (λ (l : Layout). get_or s.args.memory.now (index_of l x.depth (s.args.self.size - 1)) (pos 0))
+    s.requires.0.1)
+    test.if-size-lt1.false
 
 pub store_at_spec : {M : Type 1} → statement M
 store_at_spec =

@@ -22,7 +22,7 @@ abbrev here : tie.Start → Place Assembly Variable
 here s =
     let a = s.args in
     let stack = a.stack.now in
-    place a.self s.requires.0.0.held (upward (length stack) a.limits.last) a.store-1.now stack
+    place a.self s.requires.0.0.held (upward (length stack) a.limits.last) a.store.now stack
 
 short : tie.Need-returns-then-size-lt1
 short c =
@@ -39,10 +39,10 @@ saved c =
     let stack = s.args.stack.now in
     store_saved (here s) s.args.variable c.moves.ensures
     (ap (λ (store : List ℤ). assembly_of store stack) put.save_in.ensures)
-    (read_back w32 read.peek-z.ok read.peek-z.ensures
+    (read_back w32 read.peek-z.type_inv read.peek-z.ensures
     ∙ ap (λ (l : Layout). get_or stack (index_of l s.args.limits.depth (s.args.self.size - 1)) (pos 0))
-    s.pre.0.1)
-    test.if-size-lt1.left
+    s.requires.0.1)
+    test.if-size-lt1.false
 
 pub store_in_spec : {M : Type 1} → statement M
 store_in_spec =

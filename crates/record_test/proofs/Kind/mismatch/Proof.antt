@@ -30,7 +30,7 @@ stops c =
     let s : tie.Start invariant-loop-i decreases-loop-i = search in
     let a = s.args in
     let operand = read_back w32 z.operand_at.type_inv z.operand_at.ensures in
-    let no = not-true c.before.is_record.result c.if-not-is_record.true in
+    let no = c.if-not-is_record.true in
     stopped (kind_of a.self) a.code.now a.count turn.loop-i.i on.loop-i-test.true turn.loop-i.invariant.1
     (cc)
 
@@ -39,7 +39,7 @@ again c =
     let z : tie.After-operand_at invariant-loop-i decreases-loop-i = search in
     let turn : tie.At-loop-i invariant-loop-i decreases-loop-i = search in
     let operand = read_back w32 z.operand_at.type_inv z.operand_at.ensures in
-    let yes = not-false c.before.is_record.result c.if-not-is_record.false in
+    let yes = c.if-not-is_record.false in
     (search rules, below_more _ _ turn.loop-i.invariant.1 (cc))
 
 ends : tie.Need-returns invariant-loop-i decreases-loop-i
