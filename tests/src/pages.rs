@@ -17,7 +17,7 @@ pub fn files(folder: &str, endings: &[&str]) -> Vec<String> {
         let entry = entry.unwrap();
         let path = format!("{folder}/{}", entry.file_name().to_str().unwrap());
         if entry.path().is_dir() {
-            if !path.ends_with("/target") {
+            if !["/target", "/out"].iter().any(|built| path.ends_with(built)) {
                 found.extend(files(&path, endings));
             }
         } else if endings.iter().any(|ending| path.ends_with(ending)) {
@@ -82,8 +82,9 @@ pub fn listed() -> Vec<Listed> {
         if let Some(heading) = line.strip_prefix("# ") {
             family = heading.split(':').next().unwrap().to_string();
         } else if let Some((name, uses)) = line.split_once(':') {
+            let name = name.split_whitespace().next().unwrap().to_string();
             let uses = uses.split_whitespace().map(str::to_string).collect();
-            crates.push(Listed { name: name.to_string(), family: family.clone(), uses });
+            crates.push(Listed { name, family: family.clone(), uses });
         }
     }
     crates

@@ -12,12 +12,12 @@ fn joined(name: &str) -> String {
     files(&format!("crates/{name}"), &[".rt", ".antt"]).iter().map(|path| text(path)).collect()
 }
 
-/// Whether a text names a crate: `name::` in code, `Rattle·name` in a use line.
+/// Whether a text names a crate: `name::` in code, `Rattle.name` in a use line.
 fn names(text: &str, name: &str) -> bool {
     let inside = |c: char| c.is_ascii_alphanumeric() || c == '_';
     let code = format!("{name}::");
     let in_code = text.match_indices(&code).any(|(at, _)| !text[..at].ends_with(|c| inside(c) || c == ':'));
-    let line = format!("Rattle·{name}");
+    let line = format!("Rattle.{name}");
     in_code || text.match_indices(&line).any(|(at, _)| !text[at + line.len()..].starts_with(inside))
 }
 

@@ -111,7 +111,7 @@ fn calls() {
         let source = source(layer);
         let contract = head(&source, call);
         assert_eq!(given.split(", ").collect::<Vec<_>>(), parameters(contract), "docs/CALLS.md: {layer}::{call}");
-        assert!(!contract.contains("requires {") && contract.contains("ensures {"), "{layer}::{call}");
+        assert!(!contract.contains("requires") && contract.contains("ensures"), "{layer}::{call}");
         described.insert(call.to_string());
     }
     let readme = text("README.md");

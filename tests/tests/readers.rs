@@ -31,9 +31,9 @@ fn beside_code(file: &str) -> bool {
 /// the code's own.
 fn uses(file: &str) -> Vec<(String, Vec<String>)> {
     let mut found = Vec::new();
-    for line in specs(file).lines().filter_map(|line| line.strip_prefix("use Rattle·")) {
-        let layer = line.split(['·', '.']).next().unwrap();
-        let path = line.replacen("·specs", "", 1);
+    for line in specs(file).lines().filter_map(|line| line.strip_prefix("use Rattle.")) {
+        let layer = line.split('.').next().unwrap();
+        let path = line.replacen(".specs", "", 1);
         let name = path.split('.').find(|part| part.starts_with(|first: char| first.is_ascii_uppercase())).unwrap();
         let used = format!("{layer}/{}", name.split(' ').next().unwrap());
         if !line.contains(".declared.") && !beside_code(&used) {

@@ -47,21 +47,21 @@ record Loops (first : Machine) (last : ℕ) (code : List ℕ) (memory₀ : Assem
   stack_long : length memory.stack ≡ length memory₀.stack
   going : (g : Given last code) → Going (its_course first last code memory₀ budget g) machine memory
 
-abbrev invariant-loop : tie.invariant-loop
-invariant-loop code store₀ stack₀ last budget first store stack machine =
+abbrev invariant-loop-machine : tie.invariant-loop-machine
+invariant-loop-machine code store₀ stack₀ last budget first store stack machine =
     Loops first last code (assembly_of store₀ stack₀) budget (assembly_of store stack) machine
 
-abbrev decreases-loop : tie.decreases-loop
-decreases-loop code store₀ stack₀ last budget first store stack machine = budget - machine.count
+abbrev decreases-loop-machine : tie.decreases-loop-machine
+decreases-loop-machine code store₀ stack₀ last budget first store stack machine = budget - machine.count
 
 -- the records that the caller had
-abbrev had : (s : tie.Start invariant-loop decreases-loop) → Given s.args.last s.args.code.now
+abbrev had : (s : tie.Start invariant-loop-machine decreases-loop-machine) → Given s.args.last s.args.code.now
 had s = let p = s.requires.1 in record { P = p.records; given = p.given }
 
-begins : tie.Need-loop-init invariant-loop decreases-loop
+begins : tie.Need-loop-machine-init invariant-loop-machine decreases-loop-machine
 begins c =
-    let s : tie.Start invariant-loop decreases-loop = search in
-    let p = s.pre.0 in
+    let s : tie.Start invariant-loop-machine decreases-loop-machine = search in
+    let p = s.requires.0 in
     record {
       store_long = refl;
       stack_long = refl;
@@ -71,56 +71,56 @@ begins c =
 
 -- ---- No step: done, or spent
 
-done : tie.Need-returns invariant-loop decreases-loop
+done : tie.Need-returns-then-machine-last invariant-loop-machine decreases-loop-machine
 done c =
-    let turn : tie.At-loop invariant-loop decreases-loop = search in
-    let s : tie.Start invariant-loop decreases-loop = search in
-    let i = turn.loop.inv in (
-      λ P g. ends_done (i.going (record { P = P; given = g })) c.if1.true,
+    let turn : tie.At-loop-machine invariant-loop-machine decreases-loop-machine = search in
+    let s : tie.Start invariant-loop-machine decreases-loop-machine = search in
+    let i = turn.loop-machine.invariant in (
+      λ P g. ends_done (i.going (record { P = P; given = g })) c.if-machine-last.true,
       (i.going (had s)).used,
     )
 
-spent : tie.Need-returns-2 invariant-loop decreases-loop
+spent : tie.Need-returns-then-machine-budget invariant-loop-machine decreases-loop-machine
 spent c =
-    let not_done : tie.Else1 invariant-loop decreases-loop = search in
-    let turn : tie.At-loop invariant-loop decreases-loop = search in
-    let s : tie.Start invariant-loop decreases-loop = search in
-    let i = turn.loop.inv in (
-      λ P g. ends_spent (i.going (record { P = P; given = g })) not_done.if1.left c.if2.true,
+    let not_done : tie.Else-machine-last invariant-loop-machine decreases-loop-machine = search in
+    let turn : tie.At-loop-machine invariant-loop-machine decreases-loop-machine = search in
+    let s : tie.Start invariant-loop-machine decreases-loop-machine = search in
+    let i = turn.loop-machine.invariant in (
+      λ P g. ends_spent (i.going (record { P = P; given = g })) not_done.if-machine-last.false c.if-machine-budget.true,
       (i.going (had s)).used,
     )
 
 -- ---- A step
 
 -- the memory at a turn
-abbrev lent : tie.At-loop invariant-loop decreases-loop → Assembly
-lent turn = assembly_of turn.loop.store turn.loop.stack
+abbrev lent : tie.At-loop-machine invariant-loop-machine decreases-loop-machine → Assembly
+lent turn = assembly_of turn.loop-machine.store turn.loop-machine.stack
 
-step_requires : tie.Need-step-assembly-requires invariant-loop decreases-loop
+step_requires : tie.Need-step_assembly-requires invariant-loop-machine decreases-loop-machine
 step_requires c κs =
-    let not_spent : tie.Else2 invariant-loop decreases-loop = search in
-    let not_done : tie.Else1 invariant-loop decreases-loop = search in
-    let turn : tie.At-loop invariant-loop decreases-loop = search in
-    let s : tie.Start invariant-loop decreases-loop = search in
-    let l = turn.loop in
-    let p = s.pre.1 in
-    let g = l.inv.going (had s) in
+    let not_spent : tie.Else-machine-budget invariant-loop-machine decreases-loop-machine = search in
+    let not_done : tie.Else-machine-last invariant-loop-machine decreases-loop-machine = search in
+    let turn : tie.At-loop-machine invariant-loop-machine decreases-loop-machine = search in
+    let s : tie.Start invariant-loop-machine decreases-loop-machine = search in
+    let l = turn.loop-machine in
+    let p = s.requires.1 in
+    let g = l.invariant.going (had s) in
     let placed : l.machine.position ≤ s.args.last = g.placed in
     let used : l.machine.count ≤ s.args.budget = g.used in
     let marked : l.machine.mark ≤ length s.args.stack.now = g.marked in (
       record {
         long = search rules;
-        few = s.pre.0.few;
-        placed = omega (arith, not_done.if1.left);
+        few = s.requires.0.few;
+        placed = omega (arith, not_done.if-machine-last.false);
         held = g.held;
-        marked = omega (arith, l.inv.stack_long);
-        room = omega (arith, not_spent.if2.left, s.fits.budget.fits);
+        marked = omega (arith, l.invariant.stack_long);
+        room = omega (arith, not_spent.if-machine-budget.false, s.ranges.budget.fits);
       },
       record {
         records = p.records;
         given = p.given;
         whole = p.whole;
-        sized = l.inv.store_long ∙ p.sized;
+        sized = l.invariant.store_long ∙ p.sized;
       },
     )
 
@@ -130,65 +130,65 @@ deep : (s : Machine) (last : ℕ) (code : List ℕ) (m : Assembly) {D : ℕ} {st
     → record_at assembly_kind code s.position ≡ some r → stepped ≡ does D assembly last s m r
 deep s last code m e steps r there = steps r there ∙ ap (λ (D : ℕ). does D assembly last s m r) e
 
-less : tie.Need-loop-smaller invariant-loop decreases-loop
+less : tie.Need-loop-machine-smaller invariant-loop-machine decreases-loop-machine
 less c =
-    let on : tie.After-next invariant-loop decreases-loop = search in
-    let t : tie.After-step-assembly invariant-loop decreases-loop = search in
-    let not_spent : tie.Else2 invariant-loop decreases-loop = search in
-    let not_done : tie.Else1 invariant-loop decreases-loop = search in
-    let turn : tie.At-loop invariant-loop decreases-loop = search in
-    let s : tie.Start invariant-loop decreases-loop = search in
-    let i = turn.loop.inv in
-    let did = deep turn.loop.machine s.args.last s.args.code.now (lent turn) i.stack_long
-    t.step-assembly.ensures in
-    (going_on (i.going (had s)) not_done.if1.left not_spent.if2.left on.next.given.1 did).1
+    let on : tie.In-Next invariant-loop-machine decreases-loop-machine = search in
+    let t : tie.After-step_assembly invariant-loop-machine decreases-loop-machine = search in
+    let not_spent : tie.Else-machine-budget invariant-loop-machine decreases-loop-machine = search in
+    let not_done : tie.Else-machine-last invariant-loop-machine decreases-loop-machine = search in
+    let turn : tie.At-loop-machine invariant-loop-machine decreases-loop-machine = search in
+    let s : tie.Start invariant-loop-machine decreases-loop-machine = search in
+    let i = turn.loop-machine.invariant in
+    let did = deep turn.loop-machine.machine s.args.last s.args.code.now (lent turn) i.stack_long
+    t.step_assembly.ensures in
+    (going_on (i.going (had s)) not_done.if-machine-last.false not_spent.if-machine-budget.false on.in-Next.is did).1
 
-again : tie.Need-loop-preserved invariant-loop decreases-loop
+again : tie.Need-loop-machine-preserved invariant-loop-machine decreases-loop-machine
 again c =
-    let on : tie.After-next invariant-loop decreases-loop = search in
-    let t : tie.After-step-assembly invariant-loop decreases-loop = search in
-    let not_spent : tie.Else2 invariant-loop decreases-loop = search in
-    let not_done : tie.Else1 invariant-loop decreases-loop = search in
-    let turn : tie.At-loop invariant-loop decreases-loop = search in
-    let s : tie.Start invariant-loop decreases-loop = search in
-    let i = turn.loop.inv in
-    let did = deep turn.loop.machine s.args.last s.args.code.now (lent turn) i.stack_long
-    t.step-assembly.ensures in
+    let on : tie.In-Next invariant-loop-machine decreases-loop-machine = search in
+    let t : tie.After-step_assembly invariant-loop-machine decreases-loop-machine = search in
+    let not_spent : tie.Else-machine-budget invariant-loop-machine decreases-loop-machine = search in
+    let not_done : tie.Else-machine-last invariant-loop-machine decreases-loop-machine = search in
+    let turn : tie.At-loop-machine invariant-loop-machine decreases-loop-machine = search in
+    let s : tie.Start invariant-loop-machine decreases-loop-machine = search in
+    let i = turn.loop-machine.invariant in
+    let did = deep turn.loop-machine.machine s.args.last s.args.code.now (lent turn) i.stack_long
+    t.step_assembly.ensures in
     record {
-      store_long = t.step-assembly.kept.1.1.0 ∙ i.store_long;
-      stack_long = t.step-assembly.kept.1.1.1.0 ∙ i.stack_long;
-      going = λ g. (going_on (i.going g) not_done.if1.left not_spent.if2.left on.next.given.1 did).0;
+      store_long = t.step_assembly.auto.store ∙ i.store_long;
+      stack_long = t.step_assembly.auto.stack ∙ i.stack_long;
+      going = λ g. (going_on (i.going g) not_done.if-machine-last.false not_spent.if-machine-budget.false on.in-Next.is did).0;
     }
 
-ended : tie.Need-returns-3 invariant-loop decreases-loop
+ended : tie.Need-returns-in-Ended invariant-loop-machine decreases-loop-machine
 ended c =
-    let end : tie.After-end invariant-loop decreases-loop = search in
-    let t : tie.After-step-assembly invariant-loop decreases-loop = search in
-    let not_spent : tie.Else2 invariant-loop decreases-loop = search in
-    let not_done : tie.Else1 invariant-loop decreases-loop = search in
-    let turn : tie.At-loop invariant-loop decreases-loop = search in
-    let s : tie.Start invariant-loop decreases-loop = search in
-    let i = turn.loop.inv in
-    let did = deep turn.loop.machine s.args.last s.args.code.now (lent turn) i.stack_long
-    t.step-assembly.ensures in (
+    let end : tie.In-Ended invariant-loop-machine decreases-loop-machine = search in
+    let t : tie.After-step_assembly invariant-loop-machine decreases-loop-machine = search in
+    let not_spent : tie.Else-machine-budget invariant-loop-machine decreases-loop-machine = search in
+    let not_done : tie.Else-machine-last invariant-loop-machine decreases-loop-machine = search in
+    let turn : tie.At-loop-machine invariant-loop-machine decreases-loop-machine = search in
+    let s : tie.Start invariant-loop-machine decreases-loop-machine = search in
+    let i = turn.loop-machine.invariant in
+    let did = deep turn.loop-machine.machine s.args.last s.args.code.now (lent turn) i.stack_long
+    t.step_assembly.ensures in (
       λ P g.
-          (ends_by (i.going (record { P = P; given = g })) not_done.if1.left not_spent.if2.left
-          end.end.given.1 did).0,
-      (ends_by (i.going (had s)) not_done.if1.left not_spent.if2.left end.end.given.1 did).1,
+          (ends_by (i.going (record { P = P; given = g })) not_done.if-machine-last.false not_spent.if-machine-budget.false
+          end.in-Ended.is did).0,
+      (ends_by (i.going (had s)) not_done.if-machine-last.false not_spent.if-machine-budget.false end.in-Ended.is did).1,
     )
 
 pub finish_spec : {M : Type 1} → statement M
 finish_spec =
     tie.close
     (tie.spec
-    invariant-loop
-    decreases-loop
+    invariant-loop-machine
+    decreases-loop-machine
     begins
-    (λ c. let turn : tie.At-loop invariant-loop decreases-loop = search in turn.loop.inv.store_long)
-    (λ c. let turn : tie.At-loop invariant-loop decreases-loop = search in turn.loop.inv.stack_long)
+    (λ c. let turn : tie.At-loop-machine invariant-loop-machine decreases-loop-machine = search in turn.loop-machine.invariant.store_long)
+    (λ c. let turn : tie.At-loop-machine invariant-loop-machine decreases-loop-machine = search in turn.loop-machine.invariant.stack_long)
     done
-    (λ c. let turn : tie.At-loop invariant-loop decreases-loop = search in turn.loop.inv.store_long)
-    (λ c. let turn : tie.At-loop invariant-loop decreases-loop = search in turn.loop.inv.stack_long)
+    (λ c. let turn : tie.At-loop-machine invariant-loop-machine decreases-loop-machine = search in turn.loop-machine.invariant.store_long)
+    (λ c. let turn : tie.At-loop-machine invariant-loop-machine decreases-loop-machine = search in turn.loop-machine.invariant.stack_long)
     spent
     step_requires
     (λ c. search rules)
@@ -196,11 +196,11 @@ finish_spec =
     again
     (λ c. search rules)
     (λ c.
-    let t : tie.After-step-assembly invariant-loop decreases-loop = search in
-    let turn : tie.At-loop invariant-loop decreases-loop = search in
-    t.step-assembly.kept.1.1.0 ∙ turn.loop.inv.store_long)
+    let t : tie.After-step_assembly invariant-loop-machine decreases-loop-machine = search in
+    let turn : tie.At-loop-machine invariant-loop-machine decreases-loop-machine = search in
+    t.step_assembly.auto.store ∙ turn.loop-machine.invariant.store_long)
     (λ c.
-    let t : tie.After-step-assembly invariant-loop decreases-loop = search in
-    let turn : tie.At-loop invariant-loop decreases-loop = search in
-    t.step-assembly.kept.1.1.1.0 ∙ turn.loop.inv.stack_long)
+    let t : tie.After-step_assembly invariant-loop-machine decreases-loop-machine = search in
+    let turn : tie.At-loop-machine invariant-loop-machine decreases-loop-machine = search in
+    t.step_assembly.auto.stack ∙ turn.loop-machine.invariant.stack_long)
     ended)

@@ -19,13 +19,13 @@ memory a = assembly_of a.args.store.now a.args.stack.now
 finish_requires : tie.Need-finish-requires
 finish_requires c κs =
     let made : tie.After-fresh = search in
-    let arm : tie.After-last = search in
+    let arm : tie.In-Gives = search in
     let t : tie.After-test = search in
     let a : tie.Start = search in
     let s = a.args in
-    let f = assembly_found s.code.now (memory a) arm.last.given.1 t.test.ensures in (
+    let f = assembly_found s.code.now (memory a) arm.in-Gives.is t.test.ensures in (
       subst
-          (λ (m : Machine). Starts m arm.last.given.0.0 s.stack.now s.budget)
+          (λ (m : Machine). Starts m arm.in-Gives.last s.stack.now s.budget)
           (sym made.fresh.ensures)
           (record {
             few = f.code_is.few;
@@ -37,22 +37,22 @@ finish_requires c κs =
       record { records = f.records; given = f.code_is.given; whole = f.code_is.whole; sized = f.sized },
     )
 
-declined : tie.Need-returns
+declined : tie.Need-returns-in-Refused
 declined c =
-    let arm : tie.After-refusal = search in
+    let arm : tie.In-Refused = search in
     let t : tie.After-test = search in
     let a : tie.Start = search in
-    assembly_declines a.args.code.now (memory a) a.args.budget arm.refusal.given.1 t.test.ensures
+    assembly_declines a.args.code.now (memory a) a.args.budget arm.in-Refused.is t.test.ensures
 
-ran : tie.Need-returns-2
+ran : tie.Need-returns-in-Gives
 ran c =
     let run : tie.After-finish = search in
     let made : tie.After-fresh = search in
-    let arm : tie.After-last = search in
+    let arm : tie.In-Gives = search in
     let t : tie.After-test = search in
     let a : tie.Start = search in
     let s = a.args in
-    let f = assembly_found s.code.now (memory a) arm.last.given.1 t.test.ensures in
+    let f = assembly_found s.code.now (memory a) arm.in-Gives.is t.test.ensures in
     told (length s.stack.now) assembly f.records s.budget (memory a) run.finish.result _
     made.fresh.ensures c.answer.ensures run.finish.ensures.1
     (run.finish.ensures.0 f.records f.code_is.given)

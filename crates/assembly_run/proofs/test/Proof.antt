@@ -13,86 +13,86 @@ use Rattle.machine_step.specs.Steps.{assembly_of}
 use Rattle.assembly_run.proofs.test.Statement.{statement}
 use Rattle.assembly_run.proofs.test.Tie as tie
 
-refused_9 : tie.Need-returns
+refused_9 : tie.Need-returns-then-not-is_whole
 unfolding and_then
 refused_9 c =
-    let no : tie.Then1 = search in
-    let w : tie.After-is-whole = search in
+    let no : tie.Then-not-is_whole = search in
+    let w : tie.After-is_whole = search in
     let a : tie.Start = search in
     let s = a.args in
     c.decline.ensures
     ∙ sym
     (assembly_tested s.code.now (assembly_of s.store.now s.stack.now)
-    (sym w.is_whole.ensures ∙ not-true _ no.if1.taken) refl refl refl)
+    (sym w.is_whole.ensures ∙ no.if-not-is_whole.true) refl refl refl)
 
-refused_8 : tie.Need-returns-2
+refused_8 : tie.Need-returns-then-store-ne-VARIABLES
 unfolding and_then
 refused_8 c =
-    let no : tie.Then2 = search in
-    let whole : tie.Else1 = search in
-    let w : tie.After-is-whole = search in
+    let no : tie.Then-store-ne-VARIABLES = search in
+    let whole : tie.Else-not-is_whole = search in
+    let w : tie.After-is_whole = search in
     let a : tie.Start = search in
     let s = a.args in
-    c.decline2.ensures
+    c.decline-then-store-ne-VARIABLES.ensures
     ∙ sym
     (assembly_tested s.code.now (assembly_of s.store.now s.stack.now)
-    (sym w.is_whole.ensures ∙ not-false _ whole.if1.left) (ne_eqb _ _ no.if2.taken) refl refl)
+    (sym w.is_whole.ensures ∙ whole.if-not-is_whole.false) (ne_eqb _ _ no.if-store-ne-VARIABLES.true) refl refl)
 
-refused_10 : tie.Need-returns-3
+refused_10 : tie.Need-returns-then-place-last
 unfolding and_then
 refused_10 c =
-    let no : tie.Then3 = search in
-    let f : tie.After-mismatch = search in
+    let no : tie.Then-place-last = search in
+    let f : tie.After-mismatch-place = search in
     let k : tie.After-assembly = search in
-    let sized : tie.Else2 = search in
-    let whole : tie.Else1 = search in
-    let w : tie.After-is-whole = search in
+    let sized : tie.Else-store-ne-VARIABLES = search in
+    let whole : tie.Else-not-is_whole = search in
+    let w : tie.After-is_whole = search in
     let a : tie.Start = search in
     let s = a.args in
-    c.decline3.ensures
+    c.decline-then-place-last.ensures
     ∙ sym
     (assembly_tested s.code.now (assembly_of s.store.now s.stack.now)
-    (sym w.is_whole.ensures ∙ not-false _ whole.if1.left) (eq-eqb _ _ sized.if2.left)
-    ((tested_as _ _ assembly_same s.code.now k.assembly.ensures f.mismatch.ensures).fails
-    no.if3.taken) refl)
+    (sym w.is_whole.ensures ∙ whole.if-not-is_whole.false) (eq-eqb _ _ sized.if-store-ne-VARIABLES.false)
+    ((tested_as _ _ assembly_same s.code.now k.assembly.ensures f.mismatch-place.ensures).fails
+    no.if-place-last.true) refl)
 
-refused_11 : tie.Need-returns-4
+refused_11 : tie.Need-returns-then-stack-gt-STACK_CELLS
 unfolding and_then
 refused_11 c =
-    let no : tie.Then4 = search in
-    let all : tie.Else3 = search in
-    let f : tie.After-mismatch = search in
+    let no : tie.Then-stack-gt-STACK_CELLS = search in
+    let all : tie.Else-place-last = search in
+    let f : tie.After-mismatch-place = search in
     let k : tie.After-assembly = search in
-    let sized : tie.Else2 = search in
-    let whole : tie.Else1 = search in
-    let w : tie.After-is-whole = search in
+    let sized : tie.Else-store-ne-VARIABLES = search in
+    let whole : tie.Else-not-is_whole = search in
+    let w : tie.After-is_whole = search in
     let a : tie.Start = search in
     let s = a.args in
-    let t = tested_as _ _ assembly_same s.code.now k.assembly.ensures f.mismatch.ensures in
-    c.decline4.ensures
+    let t = tested_as _ _ assembly_same s.code.now k.assembly.ensures f.mismatch-place.ensures in
+    c.decline-then-stack-gt-STACK_CELLS.ensures
     ∙ sym
     (assembly_tested s.code.now (assembly_of s.store.now s.stack.now)
-    (sym w.is_whole.ensures ∙ not-false _ whole.if1.left) (eq-eqb _ _ sized.if2.left)
-    (t.passes (omega (arith, t.at_most, all.if3.left))).1 (lt-leb _ _ no.if4.taken))
+    (sym w.is_whole.ensures ∙ whole.if-not-is_whole.false) (eq-eqb _ _ sized.if-store-ne-VARIABLES.false)
+    (t.passes (omega (arith, t.at_most, all.if-place-last.false))).1 (lt-leb _ _ no.if-stack-gt-STACK_CELLS.true))
 
-passed : tie.Need-returns-5
+passed : tie.Need-returns
 unfolding and_then
 passed c =
-    let all : tie.Else3 = search in
-    let f : tie.After-mismatch = search in
+    let all : tie.Else-place-last = search in
+    let f : tie.After-mismatch-place = search in
     let k : tie.After-assembly = search in
-    let sized : tie.Else2 = search in
-    let whole : tie.Else1 = search in
-    let w : tie.After-is-whole = search in
+    let sized : tie.Else-store-ne-VARIABLES = search in
+    let whole : tie.Else-not-is_whole = search in
+    let w : tie.After-is_whole = search in
     let a : tie.Start = search in
     let s = a.args in
-    let t = tested_as _ _ assembly_same s.code.now k.assembly.ensures f.mismatch.ensures in
-    let P = t.passes (omega (arith, t.at_most, all.if3.left)) in
+    let t = tested_as _ _ assembly_same s.code.now k.assembly.ensures f.mismatch-place.ensures in
+    let P = t.passes (omega (arith, t.at_most, all.if-place-last.false)) in
     ap gives (sym (records_length assembly_kind s.code.now 0 (record_count s.code.now) P.1))
     ∙ sym
     (assembly_tested s.code.now (assembly_of s.store.now s.stack.now)
-    (sym w.is_whole.ensures ∙ not-false _ whole.if1.left) (eq-eqb _ _ sized.if2.left) P.1
-    (le-leb _ _ c.if4.false))
+    (sym w.is_whole.ensures ∙ whole.if-not-is_whole.false) (eq-eqb _ _ sized.if-store-ne-VARIABLES.false) P.1
+    (le-leb _ _ c.if-stack-gt-STACK_CELLS.false))
 
 pub test_spec : {M : Type 1} → statement M
 test_spec =

@@ -14,7 +14,7 @@ difference c =
     let n = c.args.n in
     (λ i. negsuc 0 -ℤ to_z_pos w32 {n = n} (omega (arith, c.requires)) i) ∙ opposite_is (pos n)
 
-fits : tie.Need-overflow-sub-result
+fits : tie.Need-overflow_sub-result
 fits c =
     subst (SFits w32) (sym (difference c))
     (opposite_fits (pos c.args.n) (record { sfits = omega (arith, c.requires) }))

@@ -14,24 +14,24 @@ test_spec =
     (λ c κs. search rules)
     (λ c. search rules)
     (λ c. search rules)
-    (λ c. let r : tie.After-read = search in unread _ _ r.read.ensures c.enum_told.given.1)
+    (λ c. let r : tie.After-read-reading = search in unread _ _ r.read-reading.ensures c.in_default.is)
     (λ c.
-    let z : tie.After-reading = search in
-    let r : tie.After-read = search in
-    let bytes : tie.After-shared-slice-known = search in
-    let f = found (λ i. (bytes.shared-slice-known.given i).fits) r.read.ensures z.reading.given.1 in
+    let z : tie.In-Accepted = search in
+    let r : tie.After-read-reading = search in
+    let bytes : tie.After-shared_slice_known-1 = search in
+    let f = found (λ i. (bytes.shared_slice_known-1.given i).fits) r.read-reading.ensures z.in-Accepted.is in
     record { fits = omega (arith, f.count, f.few) })
     (λ c κs. search rules)
     (λ c.
-    let short : tie.Then1 = search in
-    let z : tie.After-reading = search in
-    let r : tie.After-read = search in
-    let bytes : tie.After-shared-slice-known = search in
-    let f = found (λ i. (bytes.shared-slice-known.given i).fits) r.read.ensures z.reading.given.1 in
-    c.decline.ensures ∙ too_short _ _ f.read (omega (arith, short.if1.taken, f.count)))
+    let short : tie.Then-out-sizes = search in
+    let z : tie.In-Accepted = search in
+    let r : tie.After-read-reading = search in
+    let bytes : tie.After-shared_slice_known-1 = search in
+    let f = found (λ i. (bytes.shared_slice_known-1.given i).fits) r.read-reading.ensures z.in-Accepted.is in
+    c.decline.ensures ∙ too_short _ _ f.read (omega (arith, short.if-out-sizes.true, f.count)))
     (λ c.
-    let z : tie.After-reading = search in
-    let r : tie.After-read = search in
-    let bytes : tie.After-shared-slice-known = search in
-    let f = found (λ i. (bytes.shared-slice-known.given i).fits) r.read.ensures z.reading.given.1 in
-    ap gives f.tells ∙ passes _ _ f.read (omega (arith, c.if1.false, f.count))))
+    let z : tie.In-Accepted = search in
+    let r : tie.After-read-reading = search in
+    let bytes : tie.After-shared_slice_known-1 = search in
+    let f = found (λ i. (bytes.shared_slice_known-1.given i).fits) r.read-reading.ensures z.in-Accepted.is in
+    ap gives f.tells ∙ passes _ _ f.read (omega (arith, c.if-out-sizes.false, f.count))))

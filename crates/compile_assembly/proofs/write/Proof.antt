@@ -14,14 +14,14 @@ write_spec =
     tie.close
     (tie.spec
     (λ c κs.
-    let bytes : tie.After-shared-slice-known = search in
+    let bytes : tie.After-shared_slice_known-1 = search in
     let s : tie.Start = search in
-    let p = assemble_passed s.args.text.now s.args.out.now s.pre.1 in
-    let fit = read_fits s.args.text.now (λ i. (bytes.shared-slice-known.given i).fits) p.0 in
+    let p = assemble_passed s.args.text.now s.args.out.now s.requires.1 in
+    let fit = read_fits s.args.text.now (λ i. (bytes.shared_slice_known-1.given i).fits) p.0 in
     let start = taken s.args.text.now p.0 in
-    let size = record_count s.pre.0 in (
+    let size = record_count s.requires.0 in (
       record {
-        part = s.pre.0;
+        part = s.requires.0;
         next = start.end;
         is = start.part;
         room = omega (arith, p.1, size);
@@ -31,7 +31,7 @@ write_spec =
     ))
     (λ c. search rules)
     (λ c. λ x passed.
-    let w : tie.After-write-command = search in
+    let w : tie.After-write_command = search in
     let s : tie.Start = search in
     let start = taken s.args.text.now (assemble_passed s.args.text.now s.args.out.now passed).0 in
     (w.write_command.ensures.0 x start.end start.part).holds))

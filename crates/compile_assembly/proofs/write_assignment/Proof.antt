@@ -42,14 +42,14 @@ value s = record {
 returns : tie.Need-returns
 unfolding first_byte operand
 returns c =
-    let p : tie.After-put-record = search in
-    let byte : tie.After-shared-slice-known2 = search in
-    let e : tie.After-write-expression = search in
+    let p : tie.After-put_record = search in
+    let byte : tie.After-shared_slice_known-2-1 = search in
+    let e : tie.After-write_expression-value = search in
     let s : tie.Start = search in
-    let w = e.write_expression.ensures in
+    let w = e.write_expression-value.ensures in
     let v = get_or s.args.text.now (s.args.at + 1) 0 in
-    let number = to_z_pos w32 {n = v} (omega (arith, byte.shared-slice-known2.given (s.args.at + 1))) in
-    rows.wrote_all s.pre.1
+    let number = to_z_pos w32 {n = v} (omega (arith, byte.shared_slice_known-2-1.given (s.args.at + 1))) in
+    rows.wrote_all s.requires.1
     (rows.wrote (rows.part_ends (value s) w) (rows.with_rest (value s) w)
     (rows.rest_written (value s) w
     (one (STORE (variable v)) (rows.rest_room (value s) w) p.put_record.ensures refl number)))
@@ -58,21 +58,21 @@ pub write_assignment_spec : {M : Type 1} → statement M
 write_assignment_spec =
     tie.close
     (tie.spec
-    (λ c. let s : tie.Start = search in record { fits = omega (arith, (found s).0, s.good.0.0) })
-    (λ c. let s : tie.Start = search in (text_says.command_opened _ _ _ s.pre.1.is).nested)
+    (λ c. let s : tie.Start = search in record { fits = omega (arith, (found s).0, s.well_formed.0.0) })
+    (λ c. let s : tie.Start = search in (text_says.command_opened _ _ _ s.requires.1.is).nested)
     (λ c κs. let s : tie.Start = search in rows.part_writable (value s))
-    (λ c. let s : tie.Start = search in record { fits = omega (arith, (found s).0, s.good.0.0) })
+    (λ c. let s : tie.Start = search in record { fits = omega (arith, (found s).0, s.well_formed.0.0) })
     (λ c. let s : tie.Start = search in omega (arith, (found s).0))
     (λ c.
     let s : tie.Start = search in
-    record { sfits = omega (arith, c.shared-slice-known2.given (s.args.at + 1)) })
+    record { sfits = omega (arith, c.shared_slice_known-2-1.given (s.args.at + 1)) })
     (λ c κs.
-    let e : tie.After-write-expression = search in
+    let e : tie.After-write_expression-value = search in
     let s : tie.Start = search in
-    rows.rest_room (value s) e.write_expression.ensures)
+    rows.rest_room (value s) e.write_expression-value.ensures)
     (λ c.
-    let e : tie.After-write-expression = search in
+    let e : tie.After-write_expression-value = search in
     let s : tie.Start = search in
-    record { fits = omega (arith, rows.with_rest_few (value s) e.write_expression.ensures) })
+    record { fits = omega (arith, rows.with_rest_few (value s) e.write_expression-value.ensures) })
     (λ c. search rules)
     returns)

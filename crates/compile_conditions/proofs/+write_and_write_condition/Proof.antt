@@ -158,7 +158,7 @@ module _ (t : ℕ) where
   and_opened s = text_says.condition_opened _ _ _ s.requires.1.1.0.is
 
   and_next_fits : (s : InWriteAnd t and_lts.Start) → s.args.at + 1 < 2 ^ 64
-  and_next_fits s = omega (arith, (and_opened s).inside, s.well-formed.0.0)
+  and_next_fits s = omega (arith, (and_opened s).inside, s.well_formed.0.0)
 
   both : (s : InWriteAnd t and_lts.Start) →
       Sides (condition s.args.text.now (s.args.nest - 1)) s.args.flag s.args.distance s.args.whole
@@ -295,7 +295,7 @@ pub +write_and_write_condition_spec : {M : Type 1} → statement M
     let p : InWriteCondition t lts.After-past_nots-bare = search in
     let s : InWriteCondition t lts.Start = search in
     record { fits = omega (arith, (text_says.bc_at _ _ _ (found t p).is on.if-byte-eq-BC.true).inside, s.well_formed.0.0) })
-    (λ c. let put : InWriteCondition t lts.After-put_record = search in put.put_record.kept.0)
+    (λ c. let put : InWriteCondition t lts.After-put_record = search in put.put_record.auto.out)
     (returns_2 t)
     -- And
     (λ c κs.
@@ -307,7 +307,7 @@ pub +write_and_write_condition_spec : {M : Type 1} → statement M
       omega (arith, (behind _ _ read).nest, s.requires.0),
       (on.if-byte-eq-AND.true, (found t p, (sized_behind behind read s.requires.1.1.0, s.requires.1.1.1))),
     ))
-    (λ c. let w : InWriteCondition t lts.After-write_and = search in w.write_and.kept.1.1.1.1.1.1.1.0)
+    (λ c. let w : InWriteCondition t lts.After-write_and = search in w.write_and.auto.out)
     (λ c.
     let w : InWriteCondition t lts.After-write_and = search in
     let p : InWriteCondition t lts.After-past_nots-bare = search in
@@ -323,7 +323,7 @@ pub +write_and_write_condition_spec : {M : Type 1} → statement M
     let byte = text_says.last_condition s.args.text.now bare.nest bare.at (found t p).is
     no_bc.if-byte-eq-BC.false p.past_nots-bare.ensures.1 no_and.if-byte-eq-AND.false in
     (byte, found t p))
-    (λ c. let w : InWriteCondition t lts.After-write_less = search in w.write_less.kept.1.1.1.1.1.0)
+    (λ c. let w : InWriteCondition t lts.After-write_less = search in w.write_less.auto.out)
     (λ c.
     let w : InWriteCondition t lts.After-write_less = search in
     let p : InWriteCondition t lts.After-past_nots-bare = search in

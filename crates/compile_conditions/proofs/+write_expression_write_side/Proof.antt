@@ -91,7 +91,7 @@ pub +write_expression_write_side_spec : {M : Type 1} → statement M
     let s : InWriteExpression t lts.Start = search in
     (text_says.expression_opened _ _ _ s.requires.1.is).inside)
     (λ c κs. search rules)
-    (λ c. let leaf : InWriteExpression t lts.After-write_leaf = search in leaf.write_leaf.kept.1.1.1.0)
+    (λ c. let leaf : InWriteExpression t lts.After-write_leaf = search in leaf.write_leaf.auto.out)
     (λ c. let leaf : InWriteExpression t lts.After-write_leaf = search in leaf.write_leaf.ensures)
     (λ c.
     let s : InWriteExpression t lts.Start = search in
@@ -168,8 +168,8 @@ pub +write_expression_write_side_spec : {M : Type 1} → statement M
     (λ c κs. search rules)
     (λ c.
     let sum : InWriteSide t side_lts.After-write_expression = search in
-    sum.write_expression.kept.1.1.1.0)
+    sum.write_expression.auto.out)
     (λ c. let sum : InWriteSide t side_lts.After-write_expression = search in sum.write_expression.ensures)
     (λ c κs. search rules)
-    (λ c. let leaf : InWriteSide t side_lts.After-write_leaf = search in leaf.write_leaf.kept.1.1.1.0)
+    (λ c. let leaf : InWriteSide t side_lts.After-write_leaf = search in leaf.write_leaf.auto.out)
     (λ c. let leaf : InWriteSide t side_lts.After-write_leaf = search in leaf.write_leaf.ensures))

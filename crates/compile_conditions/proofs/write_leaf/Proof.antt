@@ -19,7 +19,7 @@ use Rattle.compile_conditions.proofs.write_leaf.Statement.{statement}
 use Rattle.compile_conditions.proofs.write_leaf.Tie as tie
 
 next_fits : (s : tie.Start) → s.args.at + 1 < 2 ^ 64
-next_fits s = omega (arith, (text_says.expression_opened _ _ _ s.requires.1.is).inside, s.well-formed.0.0)
+next_fits s = omega (arith, (text_says.expression_opened _ _ _ s.requires.1.is).inside, s.well_formed.0.0)
 
 -- ---- A variable
 
@@ -96,7 +96,7 @@ write_leaf_spec =
     let s : tie.Start = search in
     let k = (text_says.variable_at _ _ _ s.requires.1.is on.if-text-at-eq-VARIABLE.true).1 in
     record { fits = omega (arith, k.inside, s.well_formed.0.0) })
-    (λ c. let p : tie.After-put_record = search in p.put_record.kept.0)
+    (λ c. let p : tie.After-put_record = search in p.put_record.auto.out)
     returns
     (λ c κs. let s : tie.Start = search in (constant s c.if-text-at-eq-VARIABLE.false).inside)
     (λ c κs.
@@ -110,5 +110,5 @@ write_leaf_spec =
     let s : tie.Start = search in
     let width = ap (λ x. x.width) k.constant_at-constant.ensures in
     record { fits = omega (arith, width, (constant s off.if-text-at-eq-VARIABLE.false).inside, s.well_formed.0.0) })
-    (λ c. let p : tie.After-put_record-2 = search in p.put_record-2.kept.0)
+    (λ c. let p : tie.After-put_record-2 = search in p.put_record-2.auto.out)
     returns_2)

@@ -15,35 +15,35 @@ test_spec =
     (λ c κs. search rules)
     (λ c. search rules)
     (λ c. search rules)
-    (λ c. let r : tie.After-read = search in unread _ _ _ r.read.ensures c.enum_told.given.1)
+    (λ c. let r : tie.After-read-reading = search in unread _ _ _ r.read-reading.ensures c.in_default.is)
     (λ c κs. search rules)
     (λ c.
-    let other : tie.Then1 = search in
-    let z : tie.After-reading = search in
-    let r : tie.After-read = search in
-    let bytes : tie.After-shared-slice-known = search in
-    let f = found (λ i. (bytes.shared-slice-known.given i).fits) r.read.ensures z.reading.given.1 in
-    c.decline.ensures ∙ no_table _ _ _ f.read other.if1.taken)
+    let other : tie.Then-table-ne-TABLE_BYTES = search in
+    let z : tie.In-Accepted = search in
+    let r : tie.After-read-reading = search in
+    let bytes : tie.After-shared_slice_known-1 = search in
+    let f = found (λ i. (bytes.shared_slice_known-1.given i).fits) r.read-reading.ensures z.in-Accepted.is in
+    c.decline.ensures ∙ no_table _ _ _ f.read other.if-table-ne-TABLE_BYTES.true)
     (λ c.
-    let z : tie.After-reading = search in
-    let r : tie.After-read = search in
-    let bytes : tie.After-shared-slice-known = search in
-    let f = found (λ i. (bytes.shared-slice-known.given i).fits) r.read.ensures z.reading.given.1 in
+    let z : tie.In-Accepted = search in
+    let r : tie.After-read-reading = search in
+    let bytes : tie.After-shared_slice_known-1 = search in
+    let f = found (λ i. (bytes.shared_slice_known-1.given i).fits) r.read-reading.ensures z.in-Accepted.is in
     record { fits = omega (arith, f.count, f.few) })
     (λ c κs. search rules)
     (λ c.
-    let short : tie.Then2 = search in
-    let long : tie.Else1 = search in
-    let z : tie.After-reading = search in
-    let r : tie.After-read = search in
-    let bytes : tie.After-shared-slice-known = search in
-    let f = found (λ i. (bytes.shared-slice-known.given i).fits) r.read.ensures z.reading.given.1 in
-    c.decline2.ensures
-    ∙ too_short _ _ _ f.read long.if1.left (omega (arith, short.if2.taken, f.count)))
+    let short : tie.Then-code-sizes = search in
+    let long : tie.Else-table-ne-TABLE_BYTES = search in
+    let z : tie.In-Accepted = search in
+    let r : tie.After-read-reading = search in
+    let bytes : tie.After-shared_slice_known-1 = search in
+    let f = found (λ i. (bytes.shared_slice_known-1.given i).fits) r.read-reading.ensures z.in-Accepted.is in
+    c.decline-then-code-sizes.ensures
+    ∙ too_short _ _ _ f.read long.if-table-ne-TABLE_BYTES.false (omega (arith, short.if-code-sizes.true, f.count)))
     (λ c.
-    let long : tie.Else1 = search in
-    let z : tie.After-reading = search in
-    let r : tie.After-read = search in
-    let bytes : tie.After-shared-slice-known = search in
-    let f = found (λ i. (bytes.shared-slice-known.given i).fits) r.read.ensures z.reading.given.1 in
-    ap gives f.tells ∙ passes _ _ _ f.read long.if1.left (omega (arith, c.if2.false, f.count))))
+    let long : tie.Else-table-ne-TABLE_BYTES = search in
+    let z : tie.In-Accepted = search in
+    let r : tie.After-read-reading = search in
+    let bytes : tie.After-shared_slice_known-1 = search in
+    let f = found (λ i. (bytes.shared_slice_known-1.given i).fits) r.read-reading.ensures z.in-Accepted.is in
+    ap gives f.tells ∙ passes _ _ _ f.read long.if-table-ne-TABLE_BYTES.false (omega (arith, c.if-code-sizes.false, f.count))))

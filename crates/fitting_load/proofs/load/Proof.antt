@@ -17,20 +17,20 @@ load_spec =
     (λ c κs. search rules)
     (λ c κs.
     let cleared : tie.After-clear = search in
-    let n : tie.After-n = search in
+    let n : tie.In-Gives = search in
     let t : tie.After-test = search in
-    let e = answers t.test.ensures n.n.given.1 in
-    fits (passed _ _ _ _ e) cleared.clear.kept.0)
+    let e = answers t.test.ensures n.in-Gives.is in
+    fits (passed _ _ _ _ e) cleared.clear.auto.memory)
     (λ c. search rules)
     (λ c.
-    let r : tie.After-refusal = search in
+    let r : tie.In-Refused = search in
     let t : tie.After-test = search in
-    declined _ _ _ _ (answers t.test.ensures r.refusal.given.1))
+    declined _ _ _ _ (answers t.test.ensures r.in-Refused.is))
     (λ c. search rules)
     (λ c.
-    let filled : tie.After-to-memory = search in
+    let filled : tie.After-to_memory = search in
     let cleared : tie.After-clear = search in
-    let n : tie.After-n = search in
+    let n : tie.In-Gives = search in
     let t : tie.After-test = search in
-    let e = answers t.test.ensures n.n.given.1 in
-    settled _ _ _ _ e (loads (passed _ _ _ _ e) cleared.clear.ensures filled.to-memory.ensures)))
+    let e = answers t.test.ensures n.in-Gives.is in
+    settled _ _ _ _ e (loads (passed _ _ _ _ e) cleared.clear.ensures filled.to_memory.ensures)))

@@ -16,17 +16,17 @@ read_back_spec =
     (λ c. search rules)
     (λ c. search rules)
     (λ c κs.
-    let n : tie.After-n = search in
+    let n : tie.In-Gives = search in
     let t : tie.After-test = search in
-    fits (passed _ _ _ _ (answers t.test.ensures n.n.given.1)) refl)
+    fits (passed _ _ _ _ (answers t.test.ensures n.in-Gives.is)) refl)
     (λ c. search rules)
     (λ c.
-    let r : tie.After-refusal = search in
+    let r : tie.In-Refused = search in
     let t : tie.After-test = search in
-    declined _ _ _ _ (answers t.test.ensures r.refusal.given.1))
+    declined _ _ _ _ (answers t.test.ensures r.in-Refused.is))
     (λ c. search rules)
     (λ c.
-    let read : tie.After-to-store = search in
-    let n : tie.After-n = search in
+    let read : tie.After-to_store = search in
+    let n : tie.In-Gives = search in
     let t : tie.After-test = search in
-    settled _ _ _ _ (answers t.test.ensures n.n.given.1) read.to-store.ensures))
+    settled _ _ _ _ (answers t.test.ensures n.in-Gives.is) read.to_store.ensures))

@@ -17,33 +17,33 @@ test_spec =
     (λ c κs. search rules)
     -- 11: D above 64
     (λ c.
-    let deep : tie.Then1 = search in
-    let n : tie.After-n = search in
-    let t : tie.After-test-table = search in
-    c.decline.ensures ∙ too_deep _ _ _ _ (answers t.test_table.ensures n.n.given.1) deep.if1.taken)
+    let deep : tie.Then-depth = search in
+    let n : tie.In-Gives = search in
+    let t : tie.After-test_table = search in
+    c.decline.ensures ∙ too_deep _ _ _ _ (answers t.test_table.ensures n.in-Gives.is) deep.if-depth.true)
     (λ c. search rules)
     -- n is at most 64
     (λ c.
-    let n : tie.After-n = search in
-    let t : tie.After-test-table = search in
-    omega (arith, tabled _ _ (answers t.test_table.ensures n.n.given.1)))
+    let n : tie.In-Gives = search in
+    let t : tie.After-test_table = search in
+    omega (arith, tabled _ _ (answers t.test_table.ensures n.in-Gives.is)))
     (λ c κs. search rules)
     -- 11: the memory's length
     (λ c.
-    let room : tie.Then2 = search in
-    let deep : tie.Else1 = search in
-    let n : tie.After-n = search in
-    let t : tie.After-test-table = search in
-    c.decline2.ensures
-    ∙ no_room _ _ _ _ (answers t.test_table.ensures n.n.given.1) deep.if1.left room.if2.taken)
+    let room : tie.Then-memory-depth = search in
+    let deep : tie.Else-depth = search in
+    let n : tie.In-Gives = search in
+    let t : tie.After-test_table = search in
+    c.decline-then-memory-depth.ensures
+    ∙ no_room _ _ _ _ (answers t.test_table.ensures n.in-Gives.is) deep.if-depth.false room.if-memory-depth.true)
     -- 8, 12
     (λ c.
-    let r : tie.After-refusal = search in
-    let t : tie.After-test-table = search in
-    no_names _ _ _ _ (answers t.test_table.ensures r.refusal.given.1))
+    let r : tie.In-Refused = search in
+    let t : tie.After-test_table = search in
+    no_names _ _ _ _ (answers t.test_table.ensures r.in-Refused.is))
     -- n
     (λ c.
-    let deep : tie.Else1 = search in
-    let n : tie.After-n = search in
-    let t : tie.After-test-table = search in
-    accepts _ _ _ _ (answers t.test_table.ensures n.n.given.1) deep.if1.left c.if2.false))
+    let deep : tie.Else-depth = search in
+    let n : tie.In-Gives = search in
+    let t : tie.After-test_table = search in
+    accepts _ _ _ _ (answers t.test_table.ensures n.in-Gives.is) deep.if-depth.false c.if-memory-depth.false))

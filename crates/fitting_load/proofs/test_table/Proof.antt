@@ -10,26 +10,26 @@ pub test_table_spec : {M : Type 1} → statement M
 test_table_spec =
     tie.close (tie.spec
     (λ c κs. search rules)
-    (λ c. c.decline.ensures ∙ no_bytes _ _ c.before.if1.true)
+    (λ c. c.decline.ensures ∙ no_bytes _ _ c.before.if-table-ne-TABLE_BYTES.true)
     (λ c κs. search rules)
     (λ c.
-    let off : tie.Else1 = search in
-    c.decline2.ensures ∙ no_cells _ _ off.if1.left c.before.if2.true)
+    let off : tie.Else-table-ne-TABLE_BYTES = search in
+    c.decline-then-store-ne-VARIABLES.ensures ∙ no_cells _ _ off.if-table-ne-TABLE_BYTES.false c.before.if-store-ne-VARIABLES.true)
     (λ c κs. search rules)
     (λ c. search rules)
     (λ c κs. search rules)
     (λ c. search rules)
     (λ c.
     let found : tie.After-names = search in
-    let off2 : tie.Else2 = search in
-    let off : tie.Else1 = search in
-    c.decline3.ensures
-    ∙ no_table _ _ off.if1.left off2.if2.left
-    (none_found _ (sym found.names.ensures ∙ c.before.enum_told.given.1)))
+    let off2 : tie.Else-store-ne-VARIABLES = search in
+    let off : tie.Else-table-ne-TABLE_BYTES = search in
+    c.decline-in-NoTable.ensures
+    ∙ no_table _ _ off.if-table-ne-TABLE_BYTES.false off2.if-store-ne-VARIABLES.false
+    (none_found _ (sym found.names.ensures ∙ c.before.in-NoTable.is)))
     (λ c.
-    let n : tie.After-n = search in
+    let n : tie.In-Cells = search in
     let found : tie.After-names = search in
-    let off2 : tie.Else2 = search in
-    let off : tie.Else1 = search in
-    let both = table_found _ (sym found.names.ensures ∙ n.n.given.1) in
-    named _ _ (record { bytes = off.if1.left; cells = off2.if2.left; passes = both.0; count = both.1 })))
+    let off2 : tie.Else-store-ne-VARIABLES = search in
+    let off : tie.Else-table-ne-TABLE_BYTES = search in
+    let both = table_found _ (sym found.names.ensures ∙ n.in-Cells.is) in
+    named _ _ (record { bytes = off.if-table-ne-TABLE_BYTES.false; cells = off2.if-store-ne-VARIABLES.false; passes = both.0; count = both.1 })))

@@ -16,32 +16,32 @@ use Rattle.fitting_pairs.proofs.assemble_and_run.Tie as tie
 lent : tie.Start → AssemblyLent
 lent s = let a = s.args in assembly_buffers a.code.now (record { stack = a.stack.now; store = a.store.now })
 
-returns : tie.Need-returns
+returns : tie.Need-returns-in-Refused
 unfolding Rows.assemble_and_run lent
 returns c =
-    let no : tie.After-refusal = search in
+    let no : tie.In-Refused = search in
     let first : tie.After-assemble = search in
-    let bytes : tie.After-shared-slice-known = search in
+    let bytes : tie.After-shared_slice_known-1 = search in
     let s : tie.Start = search in
     let e = ends_there (λ code. assembly_buffers code (lent s).memory) _ first.assemble.ensures
-    (ap sizes_answer no.refusal.given.1) in (
+    (ap sizes_answer no.in-Refused.is) in (
       e,
-      same_run s.args.text.now (λ i. omega (arith, bytes.shared-slice-known.given i)) (lent s) _
+      same_run s.args.text.now (λ i. omega (arith, bytes.shared_slice_known-1.given i)) (lent s) _
           s.args.budget _ e,
     )
 
-returns_2 : tie.Need-returns-2
+returns_2 : tie.Need-returns-in-Accepted
 unfolding Rows.assemble_and_run lent
 returns_2 c =
-    let ran : tie.After-run-records = search in
-    let given : tie.After-sizes = search in
+    let ran : tie.After-run_records = search in
+    let given : tie.In-Accepted = search in
     let first : tie.After-assemble = search in
-    let bytes : tie.After-shared-slice-known = search in
+    let bytes : tie.After-shared_slice_known-1 = search in
     let s : tie.Start = search in
     let e = goes_on (λ code. assembly_buffers code (lent s).memory) _ first.assemble.ensures
-    (ap sizes_answer given.sizes.given.1) (is_last (assembly_buffers _) ran.run-records.ensures) in (
+    (ap sizes_answer given.in-Accepted.is) (is_last (assembly_buffers _) ran.run_records.ensures) in (
       e,
-      same_run s.args.text.now (λ i. omega (arith, bytes.shared-slice-known.given i)) (lent s) _
+      same_run s.args.text.now (λ i. omega (arith, bytes.shared_slice_known-1.given i)) (lent s) _
           s.args.budget _ e,
     )
 
@@ -53,9 +53,9 @@ assemble_and_run_spec =
     (λ c. search rules)
     (λ c. search rules)
     (λ c κs.
-    let given : tie.After-sizes = search in
+    let given : tie.In-Accepted = search in
     let first : tie.After-assemble = search in
-    assemble_room _ _ first.assemble.ensures (ap sizes_answer given.sizes.given.1))
+    assemble_room _ _ first.assemble.ensures (ap sizes_answer given.in-Accepted.is))
     (λ c. search rules)
     returns
     (λ c. search rules)

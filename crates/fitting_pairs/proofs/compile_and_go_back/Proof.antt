@@ -16,31 +16,31 @@ use Rattle.fitting_pairs.proofs.compile_and_go_back.Tie as tie
 lent : tie.Start → BackLent
 lent s = let a = s.args in back_buffers a.code.now a.table.now a.out.now
 
-returns : tie.Need-returns
+returns : tie.Need-returns-in-Refused
 unfolding Rows.compile_and_go_back lent
 returns c =
-    let no : tie.After-refusal = search in
+    let no : tie.In-Refused = search in
     let first : tie.After-compile = search in
-    let bytes : tie.After-shared-slice-known = search in
+    let bytes : tie.After-shared_slice_known-1 = search in
     let s : tie.Start = search in
     let e = ends_there (λ (k : Compiled). back_buffers k.code k.table (lent s).out) _ first.compile.ensures
-    (ap sizes_answer no.refusal.given.1) in (
+    (ap sizes_answer no.in-Refused.is) in (
       e,
-      same_assembly s.args.text.now (λ i. omega (arith, bytes.shared-slice-known.given i)) (lent s) _ _ e,
+      same_assembly s.args.text.now (λ i. omega (arith, bytes.shared_slice_known-1.given i)) (lent s) _ _ e,
     )
 
-returns_2 : tie.Need-returns-2
+returns_2 : tie.Need-returns-in-Accepted
 unfolding Rows.compile_and_go_back lent
 returns_2 c =
-    let back : tie.After-go-back-from = search in
-    let given : tie.After-sizes = search in
+    let back : tie.After-go_back_from = search in
+    let given : tie.In-Accepted = search in
     let first : tie.After-compile = search in
-    let bytes : tie.After-shared-slice-known = search in
+    let bytes : tie.After-shared_slice_known-1 = search in
     let s : tie.Start = search in
     let e = goes_on (λ (k : Compiled). back_buffers k.code k.table (lent s).out) _ first.compile.ensures
-    (ap sizes_answer given.sizes.given.1) (is_last (back_buffers _ _) back.go-back-from.ensures) in (
+    (ap sizes_answer given.in-Accepted.is) (is_last (back_buffers _ _) back.go_back_from.ensures) in (
       e,
-      same_assembly s.args.text.now (λ i. omega (arith, bytes.shared-slice-known.given i)) (lent s) _ _ e,
+      same_assembly s.args.text.now (λ i. omega (arith, bytes.shared_slice_known-1.given i)) (lent s) _ _ e,
     )
 
 pub compile_and_go_back_spec : {M : Type 1} → statement M
@@ -51,9 +51,9 @@ compile_and_go_back_spec =
     (λ c. search rules)
     (λ c. search rules)
     (λ c κs.
-    let given : tie.After-sizes = search in
+    let given : tie.In-Accepted = search in
     let first : tie.After-compile = search in
-    compile_room _ _ first.compile.ensures (ap sizes_answer given.sizes.given.1))
+    compile_room _ _ first.compile.ensures (ap sizes_answer given.in-Accepted.is))
     (λ c. search rules)
     (λ c. search rules)
     returns

@@ -13,7 +13,7 @@ go_back_from_spec =
     (λ c. search rules)
     (λ c.
     let s : tie.Start = search in
-    omega (arith, length-take (5 * s.args.count) s.args.code.now, s.pre))
+    omega (arith, length-take (5 * s.args.count) s.args.code.now, s.requires))
     (λ c κs. search rules)
     (λ c. search rules)
     (λ c. search rules))

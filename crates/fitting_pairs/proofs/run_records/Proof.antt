@@ -11,7 +11,7 @@ run_records_spec =
     tie.close
     (tie.spec
     (λ c. search rules)
-    (λ c. let s : tie.Start = search in omega (arith, length-take (5 * s.args.count) s.args.code.now, s.pre))
+    (λ c. let s : tie.Start = search in omega (arith, length-take (5 * s.args.count) s.args.code.now, s.requires))
     (λ c κs. search rules)
     (λ c. search rules)
     (λ c. search rules)

@@ -12,58 +12,58 @@ use Rattle.inspection_search.proofs.inspect.Tie as tie
 
 -- ---- What the tests found
 
-module _ (g : tie.After-last) where
+module _ (g : tie.In-Gives) where
   abbrev start : tie.Start
   start = search
 
-  found : let a = start.args in InspectFound a.code.now a.depth a.cells g.last.given.0.0
+  found : let a = start.args in InspectFound a.code.now a.depth a.cells g.in-Gives.last
   found =
       let t : tie.After-test = search in
       let a = start.args in
-      inspect_found a.code.now a.depth a.cells g.last.given.1 t.test.ensures
+      inspect_found a.code.now a.depth a.cells g.in-Gives.is t.test.ensures
 
-  abbrev given : Given start.args.code.now g.last.given.0.0
+  abbrev given : Given start.args.code.now g.in-Gives.last
   given =
       let f = found in
       record { n = start.args.cells; records = f.records; given = f.code_is.given }
 
-  ready : Ready start.args.code.now g.last.given.0.0 start.args.depth
+  ready : Ready start.args.code.now g.in-Gives.last start.args.depth
   ready =
       let f = found in
       record { few = f.code_is.few; deep = f.deep; bytes = f.code_is.whole; passes = given }
 
 -- ---- The answer
 
-declines : tie.Need-returns-2
+declines : tie.Need-returns-in-Refused
 declines c =
-    let r : tie.After-refusal = search in
+    let r : tie.In-Refused = search in
     let t : tie.After-test = search in
     let s : tie.Start = search in
     inspected_refused s.args.code.now s.args.depth s.args.cells
-    (refused_tests _ _ _ r.refusal.given.1 t.test.ensures)
+    (refused_tests _ _ _ r.in-Refused.is t.test.ensures)
 
 -- what the search told
 searched : (c : tie.After-passes) (result : Bool) → c.passes.result ≡ result
-    → let g : tie.After-last = search in
-    Searched (start g).args.code.now g.last.given.0.0 (start g).args.depth result
+    → let g : tie.In-Gives = search in
+    Searched (start g).args.code.now g.in-Gives.last (start g).args.depth result
 searched c result e =
-    let g : tie.After-last = search in
-    subst (Searched (start g).args.code.now g.last.given.0.0 (start g).args.depth) e c.passes.ensures
+    let g : tie.In-Gives = search in
+    subst (Searched (start g).args.code.now g.in-Gives.last (start g).args.depth) e c.passes.ensures
 
-passes : tie.Need-returns
+passes : tie.Need-returns-then-passes
 passes c =
     let p : tie.After-passes = search in
-    let g : tie.After-last = search in
-    inspected_passes _ _ _ (found g) (searched p true c.if1.true (given g))
+    let g : tie.In-Gives = search in
+    inspected_passes _ _ _ (found g) (searched p true c.if-passes.true (given g))
 
-fails : tie.Need-returns-3
+fails : tie.Need-returns-else-passes
 fails c =
     let p : tie.After-passes = search in
-    let g : tie.After-last = search in
-    let no : tie.Else1 = search in
+    let g : tie.In-Gives = search in
+    let no : tie.Else-passes = search in
     let s : tie.Start = search in
     subst (Inspected s.args.code.now s.args.depth s.args.cells) (sym c.decline.ensures)
-    (inspected_fails _ _ _ (found g) (searched p false no.if1.left (given g)))
+    (inspected_fails _ _ _ (found g) (searched p false no.if-passes.false (given g)))
 
 pub inspect_spec : {M : Type 1} → statement M
 inspect_spec =
@@ -72,7 +72,7 @@ inspect_spec =
     (λ c κs. search rules)
     (λ c. search rules)
     (λ c. search rules)
-    (λ c κs. let g : tie.After-last = search in ready g)
+    (λ c κs. let g : tie.In-Gives = search in ready g)
     passes
     (λ c κs. search rules)
     declines

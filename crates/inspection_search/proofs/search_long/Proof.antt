@@ -8,7 +8,7 @@ use Rattle.inspection_search.proofs.search_long.Tie as tie
 blank : tie.Need-search-requires
 blank c κs =
     let s : tie.Start = search in
-    all_blank 4097 s.pre (omega (arith, s.pre.few)) (omega arith)
+    all_blank 4097 s.requires (omega (arith, s.requires.few)) (omega arith)
 
 pub search_long_spec : {M : Type 1} → statement M
 search_long_spec = tie.close (tie.spec (λ c. search rules) (λ c. search rules) blank (λ c. search rules))

@@ -11,9 +11,9 @@ use Rattle.inspection_search.proofs.test.Tie as tie
 tests : tie.Need-returns
 unfolding inspect_tests
 tests c =
-    let l : tie.After-limits-hold = search in
+    let l : tie.After-limits_hold = search in
     let s : tie.Start = search in
-    c.test-machine.ensures
+    c.test_machine.ensures
     ∙ ap (λ fits. and_then (code_tests s.args.code.now s.args.cells fits) (λ P. gives (length P)))
     l.limits_hold.ensures
 

@@ -20,18 +20,18 @@ use Rattle.inspection_visit.proofs.check_record.Tie as tie
 -- ---- What a record comes to, by its effect
 
 module _ (D last p k : ℕ) (e : Effect) where
-  takes_more : k < e.takes-1 → Breaks ≡ checked D last p k e
+  takes_more : k < e.takes → Breaks ≡ checked D last p k e
   unfolding checked
   takes_more h = simp (lt-leb _ _ h)
 
-  past_D : e.takes-1 ≤ k → D < k - e.takes-1 + e.puts → Breaks ≡ checked D last p k e
+  past_D : e.takes ≤ k → D < k - e.takes + e.puts → Breaks ≡ checked D last p k e
   unfolding checked
   past_D h g = simp (le-leb _ _ h, lt-leb _ _ g)
 
-  keeps : (w : Way) → e.way ≡ w → e.takes-1 ≤ k → k - e.takes-1 + e.puts ≤ D
-      → goes last p (k - e.takes-1 + e.puts) w ≡ checked D last p k e
+  keeps : (w : Way) → e.way ≡ w → e.takes ≤ k → k - e.takes + e.puts ≤ D
+      → goes last p (k - e.takes + e.puts) w ≡ checked D last p k e
   unfolding checked
-  keeps w is h g = ap (goes last p (k - e.takes-1 + e.puts)) (sym is) ∙ simp (le-leb _ _ h, le-leb _ _ g)
+  keeps w is h g = ap (goes last p (k - e.takes + e.puts)) (sym is) ∙ simp (le-leb _ _ h, le-leb _ _ g)
 
 -- ---- By its number
 
@@ -109,7 +109,7 @@ module _ (c : tie.Else-depth-after) where
   e = numbered_effect n.wide-number.result (operand n)
 
   abbrev after : ℕ
-  after = s.args.height - e.takes-1 + e.puts
+  after = s.args.height - e.takes + e.puts
 
   by_way : (w : Way) → e.way ≡ w → goes s.args.last s.args.at after w
       ≡ checked_at s.args.code.now s.args.last s.args.depth s.args.at s.args.height

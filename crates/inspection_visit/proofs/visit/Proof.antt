@@ -152,7 +152,7 @@ module _ (c : tie.After-follow-in-Forks) where
       let s : tie.Start = search in
       let a = s.args in
       Followed a.labels.now a.order.now a.found (after_two w + 1) (jumped w) result c.follow-in-Forks.new.labels
-      c.follow-in-Forks.new.order.0
+      c.follow-in-Forks.new.order
 
   jump_followed : (result : Finds) → c.follow-in-Forks.result ≡ result → JumpFollowed result
   jump_followed result e = subst JumpFollowed e c.follow-in-Forks.ensures

@@ -145,7 +145,7 @@ again c =
     let turn : tie.At-loop-machine invariant-loop-machine decreases-loop-machine = search in
     let i = turn.loop-machine.invariant in
     record {
-      long = t.step.kept.1.1.0 ∙ i.long;
+      long = t.step.auto.memory ∙ i.long;
       going =
           λ g. (going_on (i.going g) not_done.if-machine-last.false not_spent.if-machine-limit.false on.in-Next.is
           (λ r. t.step.ensures g.n r (i.long ∙ g.cells_are))).0;
@@ -187,5 +187,5 @@ finish_spec =
     (λ c.
     let t : tie.After-step invariant-loop-machine decreases-loop-machine = search in
     let turn : tie.At-loop-machine invariant-loop-machine decreases-loop-machine = search in
-    t.step.kept.1.1.0 ∙ turn.loop-machine.invariant.long)
+    t.step.auto.memory ∙ turn.loop-machine.invariant.long)
     ended)

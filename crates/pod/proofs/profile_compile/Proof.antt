@@ -14,6 +14,6 @@ profile_compile_spec =
     (λ c. search rules)
     (λ c. search rules)
     (λ c.
-    let packed : tie.After-pack-sizes = search in
+    let packed : tie.After-pack_sizes = search in
     let answered : tie.After-compile = search in
-    packs packed_sizes _ _ packed.pack-sizes.ensures answered.compile.ensures))
+    packs packed_sizes _ _ packed.pack_sizes.ensures answered.compile.ensures))

@@ -13,6 +13,6 @@ profile_go_back_spec =
     (λ c κs. search rules)
     (λ c. search rules)
     (λ c.
-    let packed : tie.After-pack-count = search in
-    let answered : tie.After-go-back = search in
-    packs packed_count _ _ packed.pack-count.ensures answered.go_back.ensures))
+    let packed : tie.After-pack_count = search in
+    let answered : tie.After-go_back = search in
+    packs packed_count _ _ packed.pack_count.ensures answered.go_back.ensures))

@@ -13,4 +13,4 @@ profile_read_spec =
     (λ c κs. search rules)
     (λ c.
     let answered : tie.After-read = search in
-    c.pack-sizes.ensures ∙ ap packed_sizes answered.read.ensures))
+    c.pack_sizes.ensures ∙ ap packed_sizes answered.read.ensures))

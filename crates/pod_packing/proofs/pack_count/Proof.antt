@@ -17,9 +17,9 @@ pack_count_spec =
     (λ c κs. search rules)
     (λ c. search rules)
     (λ c.
-    let matched : tie.After-count = search in
-    c.pack-refusal.ensures ∙ sym (ap (λ x. packed_count (count_answer x)) matched.count.given.1))
+    let matched : tie.In-Refused = search in
+    c.pack_refusal.ensures ∙ sym (ap (λ x. packed_count (count_answer x)) matched.in-Refused.is))
     (λ c.
-    let matched : tie.After-count2 = search in
+    let matched : tie.In-Gives = search in
     ap (λ n. 256 * n) c.two_bytes.ensures
-    ∙ sym (ap (λ x. packed_count (count_answer x)) matched.count2.given.1)))
+    ∙ sym (ap (λ x. packed_count (count_answer x)) matched.in-Gives.is)))

@@ -15,5 +15,5 @@ pack_refusal_spec =
     (λ c. search rules)
     (λ c.
     let s : tie.Start = search in
-    let place : tie.After-four-bytes = search in
+    let place : tie.After-four_bytes = search in
     ap (λ n. s.args.refusal.number + 256 * n) place.four_bytes.ensures))

@@ -17,11 +17,11 @@ small_end (fault short) = omega arith
 small_end (fault full) = omega arith
 small_end (fault astray) = omega arith
 
-small : (c : tie.After-end-number) → c.end_number.result ≤ 5
+small : (c : tie.After-end_number) → c.end_number.result ≤ 5
 small c =
-    let matched : tie.After-run2 = search in
+    let matched : tie.In-Ended = search in
     let is = c.end_number.ensures in
-    omega (arith, small_end (end_of matched.run2.given.0.0))
+    omega (arith, small_end (end_of matched.in-Ended.end))
 
 pub pack_run_spec : {M : Type 1} → statement M
 pack_run_spec =
@@ -38,15 +38,15 @@ pack_run_spec =
     (λ c κs. search rules)
     (λ c. search rules)
     (λ c.
-    let number : tie.After-end-number = search in
+    let number : tie.After-end_number = search in
     let b = small number in
     let cut = c.one_byte.ensures in
     omega arith)
     (λ c.
-    let matched : tie.After-run = search in
-    c.pack-refusal.ensures ∙ sym (ap (λ x. packed_run (run_answer x)) matched.run.given.1))
+    let matched : tie.In-Refused = search in
+    c.pack_refusal.ensures ∙ sym (ap (λ x. packed_run (run_answer x)) matched.in-Refused.is))
     (λ c.
-    let number : tie.After-end-number = search in
-    let matched : tie.After-run2 = search in
+    let number : tie.After-end_number = search in
+    let matched : tie.In-Ended = search in
     rw (c.one_byte.ensures, number.end_number.ensures)
-    (sym (ap (λ x. packed_run (run_answer x)) matched.run2.given.1))))
+    (sym (ap (λ x. packed_run (run_answer x)) matched.in-Ended.is))))

@@ -23,11 +23,11 @@ pack_sizes_spec =
     (λ c. search rules)
     (λ c. search rules)
     (λ c.
-    let matched : tie.After-reading = search in
-    c.pack-refusal.ensures ∙ sym (ap (λ x. packed_sizes (sizes_answer x)) matched.reading.given.1))
+    let matched : tie.In-Refused = search in
+    c.pack_refusal.ensures ∙ sym (ap (λ x. packed_sizes (sizes_answer x)) matched.in-Refused.is))
     (λ c.
-    let depth : tie.After-one-byte = search in
-    let records : tie.After-two-bytes = search in
-    let matched : tie.After-reading2 = search in
-    rw (c.one-byte2.ensures, depth.one_byte.ensures, records.two_bytes.ensures)
-    (sym (ap (λ x. packed_sizes (sizes_answer x)) matched.reading2.given.1))))
+    let depth : tie.After-one_byte = search in
+    let records : tie.After-two_bytes = search in
+    let matched : tie.In-Accepted = search in
+    rw (c.one_byte-in-Accepted.ensures, depth.one_byte.ensures, records.two_bytes.ensures)
+    (sym (ap (λ x. packed_sizes (sizes_answer x)) matched.in-Accepted.is))))

@@ -34,42 +34,42 @@ State at t = at (known t) (given t) put_digits.Post
 
 module _ (t : ℕ) where
   -- One digit
-  returns_one : lts.Need-returns-2 (known t) (given t) put_digits.Post
+  returns_one : lts.Need-returns-then-n-lt10 (known t) (given t) put_digits.Post
   returns_one c =
-      let put : State lts.After-put-byte t = search in
-      let off : State lts.Else1 t = search in
+      let put : State lts.After-put_byte t = search in
+      let off : State lts.Else-most-eq0 t = search in
       let s : State lts.Start t = search in
-      puts_is put.put_byte.ensures (one_digit s.args.most s.args.n off.if1.left (omega arith)) refl
+      puts_is put.put_byte.ensures (one_digit s.args.most s.args.n off.if-most-eq0.false (omega arith)) refl
 
   -- The digits before the last, and the last
-  returns_more : lts.Need-returns-3 (known t) (given t) put_digits.Post
+  returns_more : lts.Need-returns (known t) (given t) put_digits.Post
   returns_more c =
-      let last : State lts.After-put-byte2 t = search in
-      let front : State lts.After-put-digits t = search in
+      let last : State lts.After-put_byte-2 t = search in
+      let front : State lts.After-put_digits-next t = search in
       let s : State lts.Start t = search in
-      puts_is (puts_both front.put_digits.ensures last.put-byte2.ensures)
+      puts_is (puts_both front.put_digits-next.ensures last.put_byte-2.ensures)
       (more_digits s.args.most s.args.n (omega arith) (omega arith)) refl
 
   -- The digits before the last have room, and are fewer.
-  front_room : lts.Need-put-digits-requires (known t) (given t) put_digits.Post
-  front_room c κs = let s : State lts.Start t = search in (omega (arith, s.pre.0), omega (arith, s.pre.1))
+  front_room : lts.Need-put_digits-next-requires (known t) (given t) put_digits.Post
+  front_room c κs = let s : State lts.Start t = search in (omega (arith, s.requires.0), omega (arith, s.requires.1))
 
   -- The last digit has room.
-  last_room : lts.Need-put-byte-requires-2 (known t) (given t) put_digits.Post
+  last_room : lts.Need-put_byte-requires-2 (known t) (given t) put_digits.Post
   last_room c κs =
-      let front : State lts.After-put-digits t = search in
+      let front : State lts.After-put_digits-next t = search in
       let s : State lts.Start t = search in
-      room_left front.put_digits.ensures (s.args.most - 1) 1 (digits_allowed _ _) (omega (arith, s.pre.1))
+      room_left front.put_digits-next.ensures (s.args.most - 1) 1 (digits_allowed _ _) (omega (arith, s.requires.1))
 
 pub +put_digits_spec : {M : Type 1} → statement M
 +put_digits_spec = close μ λ t. lts.spec (known t) (given t) put_digits.Post
     (λ c.
     let s : State lts.Start t = search in
-    puts_is (puts_none (omega (arith, s.pre.1))) (no_digits _ _ c.if1.true) refl)
+    puts_is (puts_none (omega (arith, s.requires.1))) (no_digits _ _ c.if-most-eq0.true) refl)
     (λ c. search rules)
     (λ c. search rules)
-    (λ c κs. let s : State lts.Start t = search in omega (arith, s.pre.1))
-    (λ c. let put : State lts.After-put-byte t = search in kept put.put_byte.ensures)
+    (λ c κs. let s : State lts.Start t = search in omega (arith, s.requires.1))
+    (λ c. let put : State lts.After-put_byte t = search in kept put.put_byte.ensures)
     (returns_one t)
     (λ c. search rules)
     (front_room t)

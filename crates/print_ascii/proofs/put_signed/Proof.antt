@@ -7,26 +7,26 @@ use Rattle.print_ascii.proofs.Decimals.{signed_plain, signed_minus}
 use Rattle.print_ascii.proofs.put_signed.Statement.{statement}
 use Rattle.print_ascii.proofs.put_signed.Tie as tie
 
-below_zero : tie.Need-returns
+below_zero : tie.Need-returns-then-less
 below_zero c =
-    let put : tie.After-put-decimal = search in
-    let minus : tie.After-put-byte = search in
-    let on : tie.Then1 = search in
+    let put : tie.After-put_decimal = search in
+    let minus : tie.After-put_byte-next = search in
+    let on : tie.Then-less = search in
     let test : tie.After-less = search in
-    let b : tie.After-bits = search in
+    let b : tie.After-bits-bits = search in
     let s : tie.Start = search in
-    puts_is (puts_both minus.put_byte.ensures put.put-decimal.ensures)
-    (signed_minus s.args.z s.fits.z b.bits.ensures test.less.ensures on.if1.taken) refl
+    puts_is (puts_both minus.put_byte-next.ensures put.put_decimal.ensures)
+    (signed_minus s.args.z s.ranges.z b.bits-bits.ensures test.less.ensures on.if-less.true) refl
 
-from_zero : tie.Need-returns-2
+from_zero : tie.Need-returns
 from_zero c =
-    let put : tie.After-put-decimal2 = search in
-    let off : tie.Else1 = search in
+    let put : tie.After-put_decimal-2 = search in
+    let off : tie.Else-less = search in
     let test : tie.After-less = search in
-    let b : tie.After-bits = search in
+    let b : tie.After-bits-bits = search in
     let s : tie.Start = search in
-    puts_is put.put-decimal2.ensures
-    (signed_plain s.args.z s.fits.z b.bits.ensures test.less.ensures off.if1.left) refl
+    puts_is put.put_decimal-2.ensures
+    (signed_plain s.args.z s.ranges.z b.bits-bits.ensures test.less.ensures off.if-less.false) refl
 
 pub put_signed_spec : {M : Type 1} → statement M
 put_signed_spec =

@@ -11,45 +11,45 @@ use Rattle.print_ascii.proofs.Puts.{puts_is, puts_none, puts_one, puts_both, kep
 use Rattle.print_ascii.proofs.put_word.Statement.{statement}
 use Rattle.print_ascii.proofs.put_word.Tie as tie
 
-abbrev invariant-loop : tie.invariant-loop
-invariant-loop out₀ at word i₀ out i = (i ≤ length word) × Puts (take i word) at out₀ out (at + i)
+abbrev invariant-loop-i : tie.invariant-loop-i
+invariant-loop-i out₀ at word i₀ out i = (i ≤ length word) × Puts (take i word) at out₀ out (at + i)
 
-abbrev decreases-loop : tie.decreases-loop
-decreases-loop out₀ at word i₀ out i = length word - i
+abbrev decreases-loop-i : tie.decreases-loop-i
+decreases-loop-i out₀ at word i₀ out i = length word - i
 
 -- One byte more
-one_more : tie.Need-loop-preserved invariant-loop decreases-loop
+one_more : tie.Need-loop-i-preserved invariant-loop-i decreases-loop-i
 one_more c =
-    let turn : tie.At-loop invariant-loop decreases-loop = search in
-    let s : tie.Start invariant-loop decreases-loop = search in
-    let l = turn.loop in
+    let turn : tie.At-loop-i invariant-loop-i decreases-loop-i = search in
+    let s : tie.Start invariant-loop-i decreases-loop-i = search in
+    let l = turn.loop-i in
     let word = s.args.word.now in
     let here : l.i < length word = omega arith in (
       omega arith,
       puts_is
-          (puts_both l.inv.1 (puts_one (get_or word l.i 0) (omega (arith, kept l.inv.1))))
+          (puts_both l.invariant.1 (puts_one (get_or word l.i 0) (omega (arith, kept l.invariant.1))))
           (rw (add-one, take-suc word l.i 0 here))
           (omega arith),
     )
 
-whole_word : tie.Need-returns invariant-loop decreases-loop
+whole_word : tie.Need-returns invariant-loop-i decreases-loop-i
 whole_word c =
-    let turn : tie.At-loop invariant-loop decreases-loop = search in
-    puts_is turn.loop.inv.1 (sym (take_all turn.loop.i _ (omega arith))) refl
+    let turn : tie.At-loop-i invariant-loop-i decreases-loop-i = search in
+    puts_is turn.loop-i.invariant.1 (sym (take_all turn.loop-i.i _ (omega arith))) refl
 
 pub put_word_spec : {M : Type 1} → statement M
 put_word_spec =
     tie.close
     (tie.spec
-    invariant-loop
-    decreases-loop
+    invariant-loop-i
+    decreases-loop-i
     (λ c. (omega arith, puts_is (puts_none (omega arith)) refl (omega arith)))
     (λ c. search rules)
     (λ c. search rules)
-    (λ c. let turn : tie.At-loop invariant-loop decreases-loop = search in omega (arith, kept turn.loop.inv.1))
+    (λ c. let turn : tie.At-loop-i invariant-loop-i decreases-loop-i = search in omega (arith, kept turn.loop-i.invariant.1))
     (λ c. search rules)
     (λ c. search rules)
     one_more
     (λ c. search rules)
-    (λ c. kept c.before.loop.invariant.1)
+    (λ c. kept c.before.loop-i.invariant.1)
     whole_word)

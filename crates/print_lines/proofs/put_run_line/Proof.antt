@@ -14,20 +14,19 @@ use Rattle.print_lines.proofs.put_run_line.Tie as tie
 whole_line : tie.Need-returns
 unfolding run_line
 whole_line c =
-    let p5 : tie.After-put-byte2 = search in
-    let p4 : tie.After-put-decimal = search in
-    let p3 : tie.After-put-byte = search in
-    let p2 : tie.After-put-end = search in
-    let p1 : tie.After-put-word = search in
-    puts_both p1.put_word.ensures
-    (puts_both p2.put-end.ensures
-    (puts_both p3.put_byte.ensures (puts_both p4.put-decimal.ensures p5.put-byte2.ensures)))
+    let p5 : tie.After-put_byte = search in
+    let p4 : tie.After-put_decimal-next = search in
+    let p3 : tie.After-put_byte-next = search in
+    let p2 : tie.After-put_end-next = search in
+    let p1 : tie.After-put_word-next = search in
+    puts_both p1.put_word-next.ensures
+    (puts_both p2.put_end-next.ensures
+    (puts_both p3.put_byte-next.ensures (puts_both p4.put_decimal-next.ensures p5.put_byte.ensures)))
 
 pub put_run_line_spec : {M : Type 1} → statement M
 put_run_line_spec =
     tie.close
     (tie.spec
-    (λ c. search rules)
     (λ c κs. search rules)
     (λ c κs. search rules)
     (λ c κs. let s : tie.Start = search in omega (arith, end_length (end_of s.args.end)))

@@ -13,30 +13,30 @@ use Rattle.print_lines.proofs.put_value_line.Statement.{statement}
 use Rattle.print_lines.proofs.put_value_line.Tie as tie
 
 -- The parts in a row
-whole_line : tie.Need-returns-2
+whole_line : tie.Need-returns
 whole_line c =
-    let p4 : tie.After-put-byte2 = search in
-    let p3 : tie.After-put-signed = search in
-    let p2 : tie.After-put-byte = search in
-    let p1 : tie.After-put-decimal = search in
-    let off : tie.Else1 = search in
+    let p4 : tie.After-put_byte = search in
+    let p3 : tie.After-put_signed-next = search in
+    let p2 : tie.After-put_byte-next = search in
+    let p1 : tie.After-put_decimal-next = search in
+    let off : tie.Else-address-eq0 = search in
     let s : tie.Start = search in
     puts_is
-    (puts_both p1.put-decimal.ensures
-    (puts_both p2.put_byte.ensures (puts_both p3.put-signed.ensures p4.put-byte2.ensures)))
-    (rw (to_z-of_z s.fits.value) (named_value s.args.v s.args.address s.args.value off.if1.left))
+    (puts_both p1.put_decimal-next.ensures
+    (puts_both p2.put_byte-next.ensures (puts_both p3.put_signed-next.ensures p4.put_byte.ensures)))
+    (rw (to_z-of_z s.ranges.value) (named_value s.args.v s.args.address s.args.value off.if-address-eq0.false))
     refl
 
 pub put_value_line_spec : {M : Type 1} → statement M
 put_value_line_spec =
     tie.close
     (tie.spec
-    (λ c. puts_is (puts_none (omega arith)) (unnamed _ _ _ c.if1.true) refl)
+    (λ c. puts_is (puts_none (omega arith)) (unnamed _ _ _ c.if-address-eq0.true) refl)
     (λ c κs. search rules)
-    (λ c κs. let s : tie.Start = search in omega (arith, decimal_below_100 _ s.pre.1))
-    (λ c κs. let s : tie.Start = search in omega (arith, decimal_below_100 _ s.pre.1))
+    (λ c κs. let s : tie.Start = search in omega (arith, decimal_below_100 _ s.requires.1))
+    (λ c κs. let s : tie.Start = search in omega (arith, decimal_below_100 _ s.requires.1))
     (λ c κs.
     let s : tie.Start = search in
-    omega (arith, decimal_below_100 _ s.pre.1, signed_length (to_z w32 (of_z w32 s.args.value))))
+    omega (arith, decimal_below_100 _ s.requires.1, signed_length (to_z w32 (of_z w32 s.args.value))))
     (λ c. search rules)
     whole_line)

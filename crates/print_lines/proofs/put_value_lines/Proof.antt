@@ -16,56 +16,56 @@ use Rattle.print_lines.proofs.Lengths.{value_lines_length}
 use Rattle.print_lines.proofs.put_value_lines.Statement.{statement}
 use Rattle.print_lines.proofs.put_value_lines.Tie as tie
 
-abbrev invariant-loop : tie.invariant-loop
-invariant-loop out₀ at table store next₀ v₀ out next v =
+abbrev invariant-loop-v : tie.invariant-loop-v
+invariant-loop-v out₀ at table store next₀ v₀ out next v =
     (v ≤ 64) × Puts (rows (value_at table store) 0 v) at out₀ out next
 
-abbrev decreases-loop : tie.decreases-loop
-decreases-loop out₀ at table store next₀ v₀ out next v = 64 - v
+abbrev decreases-loop-v : tie.decreases-loop-v
+decreases-loop-v out₀ at table store next₀ v₀ out next v = 64 - v
 
-none_put : tie.Need-loop-init invariant-loop decreases-loop
+none_put : tie.Need-loop-v-init invariant-loop-v decreases-loop-v
 unfolding rows
 none_put c = (omega arith, puts_none (omega arith))
 
 -- The next line has room.
-next_fits : tie.Need-put-value-line-requires invariant-loop decreases-loop
+next_fits : tie.Need-put_value_line-next-requires invariant-loop-v decreases-loop-v
 next_fits c κs =
-    let turn : tie.At-loop invariant-loop decreases-loop = search in
-    let s : tie.Start invariant-loop decreases-loop = search in
-    let l = turn.loop in
+    let turn : tie.At-loop-v invariant-loop-v decreases-loop-v = search in
+    let s : tie.Start invariant-loop-v decreases-loop-v = search in
+    let l = turn.loop-v in
     let used = value_lines_length s.args.table.now s.args.store.now 0 l.v (omega arith) in
-    (omega (arith, rw value_rows at used, kept l.inv.1, l.inv.1.ends), omega arith)
+    (omega (arith, rw value_rows at used, kept l.invariant.1, l.invariant.1.ends), omega arith)
 
-one_more : tie.Need-loop-preserved invariant-loop decreases-loop
+one_more : tie.Need-loop-v-preserved invariant-loop-v decreases-loop-v
 one_more c =
-    let put : tie.After-put-value-line invariant-loop decreases-loop = search in
-    let value : tie.After-put-value-line-arg2 invariant-loop decreases-loop = search in
-    let turn : tie.At-loop invariant-loop decreases-loop = search in
-    let s : tie.Start invariant-loop decreases-loop = search in
-    let v = turn.loop.v in
+    let put : tie.After-put_value_line-next invariant-loop-v decreases-loop-v = search in
+    let value : tie.After-put_value_line-arg-in-loop-v-1 invariant-loop-v decreases-loop-v = search in
+    let turn : tie.At-loop-v invariant-loop-v decreases-loop-v = search in
+    let s : tie.Start invariant-loop-v decreases-loop-v = search in
+    let v = turn.loop-v.v in
     let t = s.args.table.now in (
       omega arith,
-      rows_next (value_at t s.args.store.now) v turn.loop.inv.1
-          (puts_is put.put-value-line.ensures
+      rows_next (value_at t s.args.store.now) v turn.loop-v.invariant.1
+          (puts_is put.put_value_line-next.ensures
           (ap (value_line v (get_or t v 0))
-          (sym (to_z-of_z {w = w32} (record { sfits = value.put-value-line-arg2.given })))) refl),
+          (sym (to_z-of_z {w = w32} (record { sfits = value.put_value_line-arg-in-loop-v-1.given })))) refl),
     )
 
-all_put : tie.Need-returns invariant-loop decreases-loop
+all_put : tie.Need-returns invariant-loop-v decreases-loop-v
 all_put c =
-    let turn : tie.At-loop invariant-loop decreases-loop = search in
-    let s : tie.Start invariant-loop decreases-loop = search in
+    let turn : tie.At-loop-v invariant-loop-v decreases-loop-v = search in
+    let s : tie.Start invariant-loop-v decreases-loop-v = search in
     let t = s.args.table.now in
     let values = s.args.store.now in
-    let all : 64 ≡ turn.loop.v = omega arith in
-    puts_is turn.loop.inv.1 (value_rows t values 0 64 ∙ ap (rows (value_at t values) 0) all) refl
+    let all : 64 ≡ turn.loop-v.v = omega arith in
+    puts_is turn.loop-v.invariant.1 (value_rows t values 0 64 ∙ ap (rows (value_at t values) 0) all) refl
 
 pub put_value_lines_spec : {M : Type 1} → statement M
 put_value_lines_spec =
     tie.close
     (tie.spec
-    invariant-loop
-    decreases-loop
+    invariant-loop-v
+    decreases-loop-v
     none_put
     (λ c. search rules)
     (λ c. search rules)
@@ -74,5 +74,5 @@ put_value_lines_spec =
     (λ c. search rules)
     (λ c. search rules)
     one_more
-    (λ c. let turn : tie.At-loop invariant-loop decreases-loop = search in kept turn.loop.inv.1)
+    (λ c. let turn : tie.At-loop-v invariant-loop-v decreases-loop-v = search in kept turn.loop-v.invariant.1)
     all_put)

@@ -12,14 +12,14 @@ use Rattle.print_records.proofs.Texts.{named}
 use Rattle.print_records.proofs.put_name.Statement.{statement}
 use Rattle.print_records.proofs.put_name.Tie as tie
 
-name_0 : tie.Need-returns
+name_0 : tie.Need-returns-then-byte-first
 unfolding operation operation_name name_text
 name_0 c =
-    let put : tie.After-put-word = search in
-    let on : tie.Then1 = search in
-    named _ _ 0 (on.if1.taken ∙ sym (add-zero _)) put.put_word.ensures
+    let put : tie.After-put_word = search in
+    let on : tie.Then-byte-first = search in
+    named _ _ 0 (on.if-byte-first.true ∙ sym (add-zero _)) put.put_word.ensures
 
-no_name : tie.Need-returns-8
+no_name : tie.Need-returns
 unfolding operation_name
 no_name c =
     let s : tie.Start = search in
@@ -31,36 +31,29 @@ unfolding operation operation_name name_text
 put_name_spec =
     tie.close
     (tie.spec
-    (λ c. search rules)
     (λ c κs. search rules)
     (λ c. search rules)
     name_0
     (λ c. search rules)
+    (λ c κs. search rules)
+    (λ c. search rules)
+    (λ c. search named)
     (λ c. search rules)
     (λ c κs. search rules)
     (λ c. search rules)
     (λ c. search named)
     (λ c. search rules)
+    (λ c κs. search rules)
+    (λ c. search rules)
+    (λ c. search named)
     (λ c. search rules)
     (λ c κs. search rules)
     (λ c. search rules)
     (λ c. search named)
     (λ c. search rules)
-    (λ c. search rules)
     (λ c κs. search rules)
     (λ c. search rules)
     (λ c. search named)
-    (λ c. search rules)
-    (λ c. search rules)
-    (λ c κs. search rules)
-    (λ c. search rules)
-    (λ c. search named)
-    (λ c. search rules)
-    (λ c. search rules)
-    (λ c κs. search rules)
-    (λ c. search rules)
-    (λ c. search named)
-    (λ c. search rules)
     (λ c. search rules)
     (λ c κs. search rules)
     (λ c. search rules)

@@ -15,21 +15,21 @@ use Rattle.print_records.proofs.put_record.Tie as tie
 short : (s : tie.Start) → length (name_at s.args.first s.args.code.now s.args.i) ≤ 7
 short s = name_length _
 
-name_only : tie.Need-returns
+name_only : tie.Need-returns-then-byte-add
 name_only c =
-    let name : tie.After-put-name = search in
-    puts_is name.put-name.ensures (text_of_add _ _ _ c.if1.true) refl
+    let name : tie.After-put_name-next = search in
+    puts_is name.put_name-next.ensures (text_of_add _ _ _ c.if-byte-add.true) refl
 
-name_and_operand : tie.Need-returns-2
+name_and_operand : tie.Need-returns
 name_and_operand c =
-    let operand : tie.After-put-signed = search in
-    let number : tie.After-number-at = search in
-    let blank : tie.After-put-byte = search in
-    let off : tie.Else1 = search in
-    let name : tie.After-put-name = search in
+    let operand : tie.After-put_signed = search in
+    let number : tie.After-number_at = search in
+    let blank : tie.After-put_byte-next = search in
+    let off : tie.Else-byte-add = search in
+    let name : tie.After-put_name-next = search in
     puts_is
-    (puts_both name.put-name.ensures (puts_both blank.put_byte.ensures operand.put-signed.ensures))
-    (text_of_other _ _ _ _ off.if1.left (read_back w32 number.number_at.ok number.number_at.ensures))
+    (puts_both name.put_name-next.ensures (puts_both blank.put_byte-next.ensures operand.put_signed.ensures))
+    (text_of_other _ _ _ _ off.if-byte-add.false (read_back w32 number.number_at.type_inv number.number_at.ensures))
     refl
 
 pub put_record_spec : {M : Type 1} → statement M

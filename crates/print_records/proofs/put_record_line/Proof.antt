@@ -22,16 +22,16 @@ short s = (decimal_below_10000 _ s.requires.0.1, text_length _ _ _, text_length 
 whole_line : tie.Need-returns
 unfolding line_at
 whole_line c =
-    let p6 : tie.After-put-byte2 = search in
-    let p5 : tie.After-put-record2 = search in
-    let p4 : tie.After-put-word = search in
-    let p3 : tie.After-put-record = search in
-    let p2 : tie.After-put-byte = search in
-    let p1 : tie.After-put-decimal = search in
-    puts_both p1.put-decimal.ensures
-    (puts_both p2.put_byte.ensures
-    (puts_both p3.put_record.ensures
-    (puts_both p4.put_word.ensures (puts_both p5.put-record2.ensures p6.put-byte2.ensures))))
+    let p6 : tie.After-put_byte = search in
+    let p5 : tie.After-put_record-next-2 = search in
+    let p4 : tie.After-put_word-next = search in
+    let p3 : tie.After-put_record-next = search in
+    let p2 : tie.After-put_byte-next = search in
+    let p1 : tie.After-put_decimal-next = search in
+    puts_both p1.put_decimal-next.ensures
+    (puts_both p2.put_byte-next.ensures
+    (puts_both p3.put_record-next.ensures
+    (puts_both p4.put_word-next.ensures (puts_both p5.put_record-next-2.ensures p6.put_byte.ensures))))
 
 pub put_record_line_spec : {M : Type 1} → statement M
 put_record_line_spec =
@@ -40,7 +40,6 @@ put_record_line_spec =
     (λ c κs. search rules)
     (λ c κs. let s : tie.Start = search in omega (arith, short s))
     (λ c κs. let s : tie.Start = search in (omega (arith, short s), omega arith, omega arith))
-    (λ c. search rules)
     (λ c κs. let s : tie.Start = search in omega (arith, short s))
     (λ c κs. let s : tie.Start = search in (omega (arith, short s), omega arith, omega arith))
     (λ c κs. let s : tie.Start = search in omega (arith, short s))

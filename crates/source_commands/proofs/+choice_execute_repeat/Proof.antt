@@ -48,18 +48,18 @@ execute = one_more execute_reads.Pre execute_reads.Post
 abbrev repeat : Member 5 repeat_kinds.ps repeat_kinds.r
 repeat = twice repeat_reads.Pre repeat_reads.Post
 
-abbrev execute_Inv_loop : execute_lts.invariant-loop
+abbrev execute_Inv_loop : execute_lts.invariant-loop-store
 execute_Inv_loop text start deepest store₀ left₀ mark₀ ends at₀ nest₀ store left mark at nest =
     Going text start deepest (state left₀ 0 mark₀ store₀) at nest (state left 0 mark store)
 
-abbrev execute_μ_loop : execute_lts.decreases-loop
+abbrev execute_μ_loop : execute_lts.decreases-loop-store
 execute_μ_loop text start deepest store₀ left₀ mark₀ ends at₀ nest₀ store left mark at nest = nest
 
-abbrev repeat_Inv_loop : repeat_lts.invariant-loop
+abbrev repeat_Inv_loop : repeat_lts.invariant-loop-value
 repeat_Inv_loop text at nest store₀ left₀ mark₀ ends store left mark =
     Turning text at nest (state left₀ 0 mark₀ store₀) (state left 0 mark store)
 
-abbrev repeat_μ_loop : repeat_lts.decreases-loop
+abbrev repeat_μ_loop : repeat_lts.decreases-loop-value
 repeat_μ_loop text at nest store₀ left₀ mark₀ ends store left mark = left
 
 abbrev choice_claims : ℕ → choice_lts.Claims
@@ -90,7 +90,7 @@ execute_claims t = (
 )
 
 abbrev InExecute : ℕ
-    → State execute execute_lts.Claims (execute_lts.invariant-loop → execute_lts.decreases-loop → Type 0) → Type 0
+    → State execute execute_lts.Claims (execute_lts.invariant-loop-store → execute_lts.decreases-loop-store → Type 0) → Type 0
 InExecute t S = here execute (execute_claims t) t S execute_Inv_loop execute_μ_loop
 
 abbrev repeat_claims : ℕ → repeat_lts.Claims
@@ -104,7 +104,7 @@ repeat_claims t = (
 )
 
 abbrev InRepeat : ℕ
-    → State repeat repeat_lts.Claims (repeat_lts.invariant-loop → repeat_lts.decreases-loop → Type 0) → Type 0
+    → State repeat repeat_lts.Claims (repeat_lts.invariant-loop-value → repeat_lts.decreases-loop-value → Type 0) → Type 0
 InRepeat t S = here repeat (repeat_claims t) t S repeat_Inv_loop repeat_μ_loop
 
 went_told : (left μ : ℕ) (m : Store) {r r' : Progress} {o : Outcomes (Reached (Unit {0}))} → r ≡ r'
@@ -132,342 +132,342 @@ pub +choice_execute_repeat_spec : {M : Type 1} → statement M
     -- add-test
     (λ c.
     let s : InChoice t choice_lts.Start = search in
-    let w = (command_opened _ _ _ s.pre.1.1.1.0.is).inside in
-    omega (arith, s.pre.1.1.0))
+    let w = (command_opened _ _ _ s.requires.1.1.1.0.is).inside in
+    omega (arith, s.requires.1.1.0))
     -- sub-test
-    (λ c. let s : InChoice t choice_lts.Start = search in (command_opened _ _ _ s.pre.1.1.1.0.is).nested)
+    (λ c. let s : InChoice t choice_lts.Start = search in (command_opened _ _ _ s.requires.1.1.1.0.is).nested)
     -- test-requires
     (λ c κs.
     let s : InChoice t choice_lts.Start = search in
-    (s.pre.1.1.0, (was_read (parts t s).first, s.pre.1.1.1.1.1)))
+    (s.requires.1.1.0, (was_read (parts t s).first, s.requires.1.1.1.1.1)))
     (λ c. search rules)
     -- returns
     (λ c.
-    let z : InChoice t choice_lts.After-enum-told = search in
+    let z : InChoice t choice_lts.In-Spent = search in
     let e : InChoice t choice_lts.After-test = search in
     let s : InChoice t choice_lts.Start = search in
-    let stops = truth_told _ _ _ z.enum_told.given.1 e.test.ensures in
-    (sym (choice_ended s.pre.1.1.1.0.is (parts t s) _ stops), s.pre.1.1.1.1.0))
+    let stops = truth_told _ _ _ z.in-Spent.is e.test.ensures in
+    (sym (choice_ended s.requires.1.1.1.0.is (parts t s) _ stops), s.requires.1.1.1.1.0))
     (λ c. search rules)
     -- part-end-requires
     (λ c κs.
-    let v : InChoice t choice_lts.After-value = search in
+    let v : InChoice t choice_lts.In-Of = search in
     let e : InChoice t choice_lts.After-test = search in
     let s : InChoice t choice_lts.Start = search in
-    let chosen = truth_told _ _ _ v.value.given.1 e.test.ensures in
-    (command_ends _ _ _ (first_at s.pre.1.1.1.0.is (parts t s) _ chosen), s.pre.1.1.1.1.1))
+    let chosen = truth_told _ _ _ v.in-Of.is e.test.ensures in
+    (command_ends _ _ _ (first_at s.requires.1.1.1.0.is (parts t s) _ chosen), s.requires.1.1.1.1.1))
     -- sub-execute
-    (λ c. let s : InChoice t choice_lts.Start = search in (command_opened _ _ _ s.pre.1.1.1.0.is).nested)
+    (λ c. let s : InChoice t choice_lts.Start = search in (command_opened _ _ _ s.requires.1.1.1.0.is).nested)
     -- execute-requires
     (λ c κs.
-    let p : InChoice t choice_lts.After-part-end = search in
-    let v : InChoice t choice_lts.After-value = search in
+    let p : InChoice t choice_lts.After-part_end-second = search in
+    let v : InChoice t choice_lts.In-Of = search in
     let e : InChoice t choice_lts.After-test = search in
     let s : InChoice t choice_lts.Start = search in
-    let w = s.pre.1.1.1.0.is in
-    let chosen = truth_told _ _ _ v.value.given.1 e.test.ensures in
+    let w = s.requires.1.1.1.0.is in
+    let chosen = truth_told _ _ _ v.in-Of.is e.test.ensures in
     let n = (command_opened _ _ _ w).nested in
-    let middle = command_end _ _ _ (first_at w (parts t s) _ chosen) p.part-end.ensures in
-    (omega arith, (s.pre.1.1.0, (was_read (else_at w (parts t s) _ chosen _ middle), s.pre.1.1.1.1))))
+    let middle = command_end _ _ _ (first_at w (parts t s) _ chosen) p.part_end-second.ensures in
+    (omega arith, (s.requires.1.1.0, (was_read (else_at w (parts t s) _ chosen _ middle), s.requires.1.1.1.1))))
     -- returns-2
     (λ c.
-    let p : InChoice t choice_lts.After-part-end = search in
-    let no : InChoice t choice_lts.Then1 = search in
-    let v : InChoice t choice_lts.After-value = search in
+    let p : InChoice t choice_lts.After-part_end-second = search in
+    let no : InChoice t choice_lts.Then-not-value = search in
+    let v : InChoice t choice_lts.In-Of = search in
     let e : InChoice t choice_lts.After-test = search in
     let s : InChoice t choice_lts.Start = search in
-    let w = s.pre.1.1.1.0.is in
-    let chosen = truth_told _ _ _ v.value.given.1 e.test.ensures in
-    let middle = command_end _ _ _ (first_at w (parts t s) _ chosen) p.part-end.ensures in (
-      c.execute.ensures.0 ∙ sym (else_is w (parts t s) _ chosen _ middle (not_true _ no.if1.taken)),
+    let w = s.requires.1.1.1.0.is in
+    let chosen = truth_told _ _ _ v.in-Of.is e.test.ensures in
+    let middle = command_end _ _ _ (first_at w (parts t s) _ chosen) p.part_end-second.ensures in (
+      c.execute.ensures.0 ∙ sym (else_is w (parts t s) _ chosen _ middle (no.if-not-value.true)),
       c.execute.ensures.1,
     ))
     -- sub-execute-2
-    (λ c. let s : InChoice t choice_lts.Start = search in (command_opened _ _ _ s.pre.1.1.1.0.is).nested)
+    (λ c. let s : InChoice t choice_lts.Start = search in (command_opened _ _ _ s.requires.1.1.1.0.is).nested)
     -- execute-requires-2
     (λ c κs.
-    let v : InChoice t choice_lts.After-value = search in
+    let v : InChoice t choice_lts.In-Of = search in
     let e : InChoice t choice_lts.After-test = search in
     let s : InChoice t choice_lts.Start = search in
-    let w = s.pre.1.1.1.0.is in
-    let chosen = truth_told _ _ _ v.value.given.1 e.test.ensures in
+    let w = s.requires.1.1.1.0.is in
+    let chosen = truth_told _ _ _ v.in-Of.is e.test.ensures in
     let n = (command_opened _ _ _ w).nested in
-    (omega arith, (s.pre.1.1.0, (was_read (first_at w (parts t s) _ chosen), s.pre.1.1.1.1))))
+    (omega arith, (s.requires.1.1.0, (was_read (first_at w (parts t s) _ chosen), s.requires.1.1.1.1))))
     (λ c. search rules)
     -- returns-3
     (λ c.
-    let z : InChoice t choice_lts.After-enum-told2 = search in
-    let f : InChoice t choice_lts.After-execute2 = search in
-    let yes : InChoice t choice_lts.Else1 = search in
-    let v : InChoice t choice_lts.After-value = search in
+    let z : InChoice t choice_lts.In-Spent-execute = search in
+    let f : InChoice t choice_lts.After-execute-in-Of = search in
+    let yes : InChoice t choice_lts.Else-not-value = search in
+    let v : InChoice t choice_lts.In-Of = search in
     let e : InChoice t choice_lts.After-test = search in
     let s : InChoice t choice_lts.Start = search in
-    let w = s.pre.1.1.1.0.is in
-    let chosen = truth_told _ _ _ v.value.given.1 e.test.ensures in
-    let stops = went_told _ _ _ z.enum-told2.given.1 f.execute2.ensures.0 in
-    (sym (first_stops w (parts t s) _ chosen (not_false _ yes.if1.left) stops), f.execute2.ensures.1))
+    let w = s.requires.1.1.1.0.is in
+    let chosen = truth_told _ _ _ v.in-Of.is e.test.ensures in
+    let stops = went_told _ _ _ z.in-Spent-execute.is f.execute-in-Of.ensures.0 in
+    (sym (first_stops w (parts t s) _ chosen (yes.if-not-value.false) stops), f.execute-in-Of.ensures.1))
     (λ c. search rules)
     -- part-end-requires-2
     (λ c κs.
-    let b : InChoice t choice_lts.After-second = search in
-    let f : InChoice t choice_lts.After-execute2 = search in
-    let v : InChoice t choice_lts.After-value = search in
+    let b : InChoice t choice_lts.In-On = search in
+    let f : InChoice t choice_lts.After-execute-in-Of = search in
+    let v : InChoice t choice_lts.In-Of = search in
     let e : InChoice t choice_lts.After-test = search in
     let s : InChoice t choice_lts.Start = search in
-    let chosen = truth_told _ _ _ v.value.given.1 e.test.ensures in
-    let first = went_told _ _ _ b.second.given.1 f.execute2.ensures.0 in
-    (command_ends _ _ _ (other_at s.pre.1.1.1.0.is (parts t s) _ chosen first), s.pre.1.1.1.1.1))
+    let chosen = truth_told _ _ _ v.in-Of.is e.test.ensures in
+    let first = went_told _ _ _ b.in-On.is f.execute-in-Of.ensures.0 in
+    (command_ends _ _ _ (other_at s.requires.1.1.1.0.is (parts t s) _ chosen first), s.requires.1.1.1.1.1))
     (λ c κs. search rules)
     -- returns-4
     (λ c.
-    let p : InChoice t choice_lts.After-part-end2 = search in
-    let b : InChoice t choice_lts.After-second = search in
-    let f : InChoice t choice_lts.After-execute2 = search in
-    let yes : InChoice t choice_lts.Else1 = search in
-    let v : InChoice t choice_lts.After-value = search in
+    let p : InChoice t choice_lts.After-part_end = search in
+    let b : InChoice t choice_lts.In-On = search in
+    let f : InChoice t choice_lts.After-execute-in-Of = search in
+    let yes : InChoice t choice_lts.Else-not-value = search in
+    let v : InChoice t choice_lts.In-Of = search in
     let e : InChoice t choice_lts.After-test = search in
     let s : InChoice t choice_lts.Start = search in
-    let w = s.pre.1.1.1.0.is in
-    let chosen = truth_told _ _ _ v.value.given.1 e.test.ensures in
-    let first = went_told _ _ _ b.second.given.1 f.execute2.ensures.0 in
-    let end = command_end _ _ _ (other_at w (parts t s) _ chosen first) p.part-end2.ensures in
-    let lent = f.execute2.last.1.1.1 in (
+    let w = s.requires.1.1.1.0.is in
+    let chosen = truth_told _ _ _ v.in-Of.is e.test.ensures in
+    let first = went_told _ _ _ b.in-On.is f.execute-in-Of.ensures.0 in
+    let end = command_end _ _ _ (other_at w (parts t s) _ chosen first) p.part_end.ensures in
+    let lent = f.execute-in-Of.new in (
       c.ticked.ensures _ _
-          ∙ ap (λ j. reaching j (tick (state lent.1.0 0 lent.1.1.0 lent.0))) end
-          ∙ sym (first_done w (parts t s) _ chosen first (not_false _ yes.if1.left)),
-      f.execute2.ensures.1,
+          ∙ ap (λ j. reaching j (tick (state lent.left 0 lent.mark lent.store))) end
+          ∙ sym (first_done w (parts t s) _ chosen first (yes.if-not-value.false)),
+      f.execute-in-Of.ensures.1,
     )))
     (λ t. execute_lts.spec (execute_claims t) (at execute t) execute.post execute_Inv_loop execute_μ_loop
     -- loop-holds
-    (λ c. let s : InExecute t execute_lts.Start = search in begins _ _ _ _ s.pre.1.1.0 s.pre.1.1.1.0)
+    (λ c. let s : InExecute t execute_lts.Start = search in begins _ _ _ _ s.requires.1.1.0 s.requires.1.1.1.0)
     -- element-copy-out-op
     (λ c.
-    let l : InExecute t execute_lts.At-loop = search in
+    let l : InExecute t execute_lts.At-loop-store = search in
     let s : InExecute t execute_lts.Start = search in
-    let w = (command_opened _ _ _ l.loop.inv.read.is).inside in
-    omega (arith, s.pre.1.0))
+    let w = (command_opened _ _ _ l.loop-store.invariant.read.is).inside in
+    omega (arith, s.requires.1.0))
     -- add-t15
     (λ c.
-    let l : InExecute t execute_lts.At-loop = search in
+    let l : InExecute t execute_lts.At-loop-store = search in
     let s : InExecute t execute_lts.Start = search in
-    let w = (command_opened _ _ _ l.loop.inv.read.is).inside in
-    omega (arith, s.pre.1.0))
+    let w = (command_opened _ _ _ l.loop-store.invariant.read.is).inside in
+    omega (arith, s.requires.1.0))
     -- returns
     (λ c.
-    let k : InExecute t execute_lts.At-match-keys1 = search in
-    let l : InExecute t execute_lts.At-loop = search in
-    let i = l.loop.inv in
-    (sym (skip_is _ (skip_at _ _ _ i.read.is k.match.keys1).read) ∙ i.same, i.long))
+    let k : InExecute t execute_lts.In-0 = search in
+    let l : InExecute t execute_lts.At-loop-store = search in
+    let i = l.loop-store.invariant in
+    (sym (skip_is _ (skip_at _ _ _ i.read.is k.in-0.is).read) ∙ i.same, i.long))
     -- assignment-requires
     (λ c κs.
-    let k : InExecute t execute_lts.At-match-keys2 = search in
-    let l : InExecute t execute_lts.At-loop = search in
+    let k : InExecute t execute_lts.In-1 = search in
+    let l : InExecute t execute_lts.At-loop-store = search in
     let s : InExecute t execute_lts.Start = search in
-    (k.match.keys2, (s.pre.1.0, (l.loop.inv.read, l.loop.inv.long))))
+    (k.in-1.is, (s.requires.1.0, (l.loop-store.invariant.read, l.loop-store.invariant.long))))
     -- returns-2
     (λ c.
-    let l : InExecute t execute_lts.At-loop = search in
-    (c.assignment.ensures.0 ∙ l.loop.inv.same, c.assignment.ensures.1))
+    let l : InExecute t execute_lts.At-loop-store = search in
+    (c.assignment.ensures.0 ∙ l.loop-store.invariant.same, c.assignment.ensures.1))
     -- add-execute
     (λ c.
-    let l : InExecute t execute_lts.At-loop = search in
+    let l : InExecute t execute_lts.At-loop-store = search in
     let s : InExecute t execute_lts.Start = search in
-    let w = (command_opened _ _ _ l.loop.inv.read.is).inside in
-    omega (arith, s.pre.1.0))
+    let w = (command_opened _ _ _ l.loop-store.invariant.read.is).inside in
+    omega (arith, s.requires.1.0))
     -- sub-execute
-    (λ c. let l : InExecute t execute_lts.At-loop = search in (command_opened _ _ _ l.loop.inv.read.is).nested)
+    (λ c. let l : InExecute t execute_lts.At-loop-store = search in (command_opened _ _ _ l.loop-store.invariant.read.is).nested)
     -- execute-requires
     (λ c κs.
-    let k : InExecute t execute_lts.At-match-keys3 = search in
-    let l : InExecute t execute_lts.At-loop = search in
-    let i = l.loop.inv in
-    let two = sequence_at _ _ _ i.read.is k.match.keys3 in
+    let k : InExecute t execute_lts.In-2 = search in
+    let l : InExecute t execute_lts.At-loop-store = search in
+    let i = l.loop-store.invariant in
+    let two = sequence_at _ _ _ i.read.is k.in-2.is in
     let s : InExecute t execute_lts.Start = search in
     let m = i.nested in
     let n = (command_opened _ _ _ i.read.is).nested in
-    (omega arith, (s.pre.1.0, (was_read two.first, (i.long, s.pre.1.1.1.1)))))
+    (omega arith, (s.requires.1.0, (was_read two.first, (i.long, s.requires.1.1.1.1)))))
     (λ c. search rules)
     -- returns-3
     (λ c.
-    let z : InExecute t execute_lts.After-enum-told = search in
+    let z : InExecute t execute_lts.In-Spent = search in
     let f : InExecute t execute_lts.After-execute = search in
-    let k : InExecute t execute_lts.At-match-keys3 = search in
-    let l : InExecute t execute_lts.At-loop = search in
-    let i = l.loop.inv in
-    let two = sequence_at _ _ _ i.read.is k.match.keys3 in
-    let stops = went_told _ _ _ z.enum_told.given.1 f.execute.ensures.0 in
+    let k : InExecute t execute_lts.In-2 = search in
+    let l : InExecute t execute_lts.At-loop-store = search in
+    let i = l.loop-store.invariant in
+    let two = sequence_at _ _ _ i.read.is k.in-2.is in
+    let stops = went_told _ _ _ z.in-Spent.is f.execute.ensures.0 in
     (sym (sequence_ended i.read.is two _ stops) ∙ i.same, f.execute.ensures.1))
     (λ c. search rules)
     -- sub-nest
-    (λ c. let l : InExecute t execute_lts.At-loop = search in (command_opened _ _ _ l.loop.inv.read.is).nested)
+    (λ c. let l : InExecute t execute_lts.At-loop-store = search in (command_opened _ _ _ l.loop-store.invariant.read.is).nested)
     -- loop-less
     (λ c.
-    let l : InExecute t execute_lts.At-loop = search in
-    let n = (command_opened _ _ _ l.loop.inv.read.is).nested in
+    let l : InExecute t execute_lts.At-loop-store = search in
+    let n = (command_opened _ _ _ l.loop-store.invariant.read.is).nested in
     omega arith)
     -- loop-again
     (λ c.
-    let z : InExecute t execute_lts.After-next = search in
+    let z : InExecute t execute_lts.In-On = search in
     let f : InExecute t execute_lts.After-execute = search in
-    let k : InExecute t execute_lts.At-match-keys3 = search in
-    let l : InExecute t execute_lts.At-loop = search in
-    let i = l.loop.inv in
-    let two = sequence_at _ _ _ i.read.is k.match.keys3 in
-    let first = went_told _ _ _ z.next.given.1 f.execute.ensures.0 in
+    let k : InExecute t execute_lts.In-2 = search in
+    let l : InExecute t execute_lts.At-loop-store = search in
+    let i = l.loop-store.invariant in
+    let two = sequence_at _ _ _ i.read.is k.in-2.is in
+    let first = went_told _ _ _ z.in-On.is f.execute.ensures.0 in
     second_next i two first f.execute.ensures.1)
     -- choice-requires
     (λ c κs.
-    let k : InExecute t execute_lts.At-match-keys4 = search in
-    let l : InExecute t execute_lts.At-loop = search in
+    let k : InExecute t execute_lts.In-3 = search in
+    let l : InExecute t execute_lts.At-loop-store = search in
     let s : InExecute t execute_lts.Start = search in
-    let i = l.loop.inv in
+    let i = l.loop-store.invariant in
     let m = i.nested in
-    (omega arith, (k.match.keys4, (s.pre.1.0, (i.read, (i.long, s.pre.1.1.1.1))))))
+    (omega arith, (k.in-3.is, (s.requires.1.0, (i.read, (i.long, s.requires.1.1.1.1))))))
     -- returns-4
     (λ c.
-    let l : InExecute t execute_lts.At-loop = search in
-    (c.choice.ensures.0 ∙ l.loop.inv.same, c.choice.ensures.1))
+    let l : InExecute t execute_lts.At-loop-store = search in
+    (c.choice.ensures.0 ∙ l.loop-store.invariant.same, c.choice.ensures.1))
     -- repeat-requires
     (λ c κs.
-    let k : InExecute t execute_lts.At-match-rest = search in
-    let l : InExecute t execute_lts.At-loop = search in
+    let k : InExecute t execute_lts.In_default = search in
+    let l : InExecute t execute_lts.At-loop-store = search in
     let s : InExecute t execute_lts.Start = search in
-    let i = l.loop.inv in
+    let i = l.loop-store.invariant in
     let m = i.nested in
-    let r = k.match.rest in
+    let r = k.in_default.in_default-own.rest in
     let b = last_command _ _ _ i.read.is r.0.0.0.1 r.0.0.1 r.0.1 r.1 in
-    (omega arith, (b, (s.pre.1.0, (i.read, (i.long, s.pre.1.1.1.1))))))
+    (omega arith, (b, (s.requires.1.0, (i.read, (i.long, s.requires.1.1.1.1))))))
     -- returns-5
     (λ c.
-    let l : InExecute t execute_lts.At-loop = search in
-    (c.repeat.ensures.0 ∙ l.loop.inv.same, c.repeat.ensures.1)))
+    let l : InExecute t execute_lts.At-loop-store = search in
+    (c.repeat.ensures.0 ∙ l.loop-store.invariant.same, c.repeat.ensures.1)))
     (λ t. repeat_lts.spec (repeat_claims t) (at repeat t) repeat.post repeat_Inv_loop repeat_μ_loop
     -- loop-holds
     (λ c.
     let s : InRepeat t repeat_lts.Start = search in
-    record { long = s.pre.1.1.1.1.0; same = refl })
+    record { long = s.requires.1.1.1.1.0; same = refl })
     -- add-guard
     (λ c.
     let s : InRepeat t repeat_lts.Start = search in
-    let w = (command_opened _ _ _ s.pre.1.1.1.0.is).inside in
-    omega (arith, s.pre.1.1.0))
+    let w = (command_opened _ _ _ s.requires.1.1.1.0.is).inside in
+    omega (arith, s.requires.1.1.0))
     -- sub-guard
-    (λ c. let s : InRepeat t repeat_lts.Start = search in (command_opened _ _ _ s.pre.1.1.1.0.is).nested)
+    (λ c. let s : InRepeat t repeat_lts.Start = search in (command_opened _ _ _ s.requires.1.1.1.0.is).nested)
     -- guard-requires
     (λ c κs.
     let s : InRepeat t repeat_lts.Start = search in
-    (s.pre.1.1.0, (was_read (looped t s).first, s.pre.1.1.1.1.1)))
+    (s.requires.1.1.0, (was_read (looped t s).first, s.requires.1.1.1.1.1)))
     (λ c. search rules)
     -- returns
     (λ c.
-    let z : InRepeat t repeat_lts.After-enum-told = search in
+    let z : InRepeat t repeat_lts.In-Spent = search in
     let e : InRepeat t repeat_lts.After-guard = search in
-    let l : InRepeat t repeat_lts.At-loop = search in
+    let l : InRepeat t repeat_lts.At-loop-value = search in
     let s : InRepeat t repeat_lts.Start = search in
-    let i = l.loop.inv in
-    let stops = truth_told _ _ _ z.enum_told.given.1 e.guard.ensures in
-    (sym (while_ended s.pre.1.1.1.0.is (looped t s) _ stops) ∙ i.same, i.long))
+    let i = l.loop-value.invariant in
+    let stops = truth_told _ _ _ z.in-Spent.is e.guard.ensures in
+    (sym (while_ended s.requires.1.1.1.0.is (looped t s) _ stops) ∙ i.same, i.long))
     (λ c. search rules)
     -- part-end-requires
     (λ c κs.
-    let v : InRepeat t repeat_lts.After-value = search in
+    let v : InRepeat t repeat_lts.In-Of = search in
     let e : InRepeat t repeat_lts.After-guard = search in
     let s : InRepeat t repeat_lts.Start = search in
-    let truth = truth_told _ _ _ v.value.given.1 e.guard.ensures in
-    (command_ends _ _ _ (body_at s.pre.1.1.1.0.is (looped t s) _ truth), s.pre.1.1.1.1.1))
+    let truth = truth_told _ _ _ v.in-Of.is e.guard.ensures in
+    (command_ends _ _ _ (body_at s.requires.1.1.1.0.is (looped t s) _ truth), s.requires.1.1.1.1.1))
     -- returns-2
     (λ c.
-    let no : InRepeat t repeat_lts.Then1 = search in
-    let v : InRepeat t repeat_lts.After-value = search in
+    let no : InRepeat t repeat_lts.Then-not-value = search in
+    let v : InRepeat t repeat_lts.In-Of = search in
     let e : InRepeat t repeat_lts.After-guard = search in
-    let l : InRepeat t repeat_lts.At-loop = search in
+    let l : InRepeat t repeat_lts.At-loop-value = search in
     let s : InRepeat t repeat_lts.Start = search in
-    let w = s.pre.1.1.1.0.is in
-    let i = l.loop.inv in
-    let truth = truth_told _ _ _ v.value.given.1 e.guard.ensures in
-    let end = command_end _ _ _ (body_at w (looped t s) _ truth) c.part-end.ensures in
-    let lent = e.guard.last.1.1.1.1 in (
-      ap (λ n. ok (tt upto n) (state lent.0 0 lent.1.0 l.loop.store)) end
-          ∙ sym (while_done w (looped t s) _ truth (not_true _ no.if1.taken)) ∙ i.same,
+    let w = s.requires.1.1.1.0.is in
+    let i = l.loop-value.invariant in
+    let truth = truth_told _ _ _ v.in-Of.is e.guard.ensures in
+    let end = command_end _ _ _ (body_at w (looped t s) _ truth) c.part_end.ensures in
+    let lent = e.guard.new in (
+      ap (λ n. ok (tt upto n) (state lent.left 0 lent.mark l.loop-value.store)) end
+          ∙ sym (while_done w (looped t s) _ truth (no.if-not-value.true)) ∙ i.same,
       i.long,
     ))
     -- sub-execute
-    (λ c. let s : InRepeat t repeat_lts.Start = search in (command_opened _ _ _ s.pre.1.1.1.0.is).nested)
+    (λ c. let s : InRepeat t repeat_lts.Start = search in (command_opened _ _ _ s.requires.1.1.1.0.is).nested)
     -- execute-requires
     (λ c κs.
-    let v : InRepeat t repeat_lts.After-value = search in
+    let v : InRepeat t repeat_lts.In-Of = search in
     let e : InRepeat t repeat_lts.After-guard = search in
-    let l : InRepeat t repeat_lts.At-loop = search in
+    let l : InRepeat t repeat_lts.At-loop-value = search in
     let s : InRepeat t repeat_lts.Start = search in
-    let w = s.pre.1.1.1.0.is in
-    let truth = truth_told _ _ _ v.value.given.1 e.guard.ensures in
+    let w = s.requires.1.1.1.0.is in
+    let truth = truth_told _ _ _ v.in-Of.is e.guard.ensures in
     let n = (command_opened _ _ _ w).nested in (
       omega arith,
       (
-        s.pre.1.1.0,
-        (was_read (body_at w (looped t s) _ truth), (l.loop.inv.long, s.pre.1.1.1.1.1)),
+        s.requires.1.1.0,
+        (was_read (body_at w (looped t s) _ truth), (l.loop-value.invariant.long, s.requires.1.1.1.1.1)),
       ),
     ))
     (λ c. search rules)
     -- returns-3
     (λ c.
-    let z : InRepeat t repeat_lts.After-enum-told2 = search in
+    let z : InRepeat t repeat_lts.In-Spent-execute = search in
     let b : InRepeat t repeat_lts.After-execute = search in
-    let on : InRepeat t repeat_lts.Else1 = search in
-    let v : InRepeat t repeat_lts.After-value = search in
+    let on : InRepeat t repeat_lts.Else-not-value = search in
+    let v : InRepeat t repeat_lts.In-Of = search in
     let e : InRepeat t repeat_lts.After-guard = search in
-    let l : InRepeat t repeat_lts.At-loop = search in
+    let l : InRepeat t repeat_lts.At-loop-value = search in
     let s : InRepeat t repeat_lts.Start = search in
-    let w = s.pre.1.1.1.0.is in
-    let truth = truth_told _ _ _ v.value.given.1 e.guard.ensures in
-    let stops = went_told _ _ _ z.enum-told2.given.1 b.execute.ensures.0 in (
-      sym (body_stops w (looped t s) _ truth (not_false _ on.if1.left) stops) ∙ l.loop.inv.same,
+    let w = s.requires.1.1.1.0.is in
+    let truth = truth_told _ _ _ v.in-Of.is e.guard.ensures in
+    let stops = went_told _ _ _ z.in-Spent-execute.is b.execute.ensures.0 in (
+      sym (body_stops w (looped t s) _ truth (on.if-not-value.false) stops) ∙ l.loop-value.invariant.same,
       b.execute.ensures.1,
     ))
     (λ c. search rules)
     -- returns-4
     (λ c.
-    let none : InRepeat t repeat_lts.Then2 = search in
-    let z : InRepeat t repeat_lts.After-enum-told3 = search in
+    let none : InRepeat t repeat_lts.Then-left-eq0 = search in
+    let z : InRepeat t repeat_lts.In-On = search in
     let b : InRepeat t repeat_lts.After-execute = search in
-    let on : InRepeat t repeat_lts.Else1 = search in
-    let v : InRepeat t repeat_lts.After-value = search in
+    let on : InRepeat t repeat_lts.Else-not-value = search in
+    let v : InRepeat t repeat_lts.In-Of = search in
     let e : InRepeat t repeat_lts.After-guard = search in
-    let l : InRepeat t repeat_lts.At-loop = search in
+    let l : InRepeat t repeat_lts.At-loop-value = search in
     let s : InRepeat t repeat_lts.Start = search in
-    let w = s.pre.1.1.1.0.is in
-    let truth = truth_told _ _ _ v.value.given.1 e.guard.ensures in
-    let went_on = went_told _ _ _ z.enum-told3.given.1 b.execute.ensures.0 in (
-      sym (turn_spent w (looped t s) _ truth (not_false _ on.if1.left) went_on none.if2.taken)
-          ∙ l.loop.inv.same,
+    let w = s.requires.1.1.1.0.is in
+    let truth = truth_told _ _ _ v.in-Of.is e.guard.ensures in
+    let went_on = went_told _ _ _ z.in-On.is b.execute.ensures.0 in (
+      sym (turn_spent w (looped t s) _ truth (on.if-not-value.false) went_on none.if-left-eq0.true)
+          ∙ l.loop-value.invariant.same,
       b.execute.ensures.1,
     ))
     (λ c. search rules)
     -- loop-less
     (λ c.
-    let some : InRepeat t repeat_lts.Else2 = search in
-    let z : InRepeat t repeat_lts.After-enum-told3 = search in
+    let some : InRepeat t repeat_lts.Else-left-eq0 = search in
+    let z : InRepeat t repeat_lts.In-On = search in
     let b : InRepeat t repeat_lts.After-execute = search in
-    let v : InRepeat t repeat_lts.After-value = search in
+    let v : InRepeat t repeat_lts.In-Of = search in
     let e : InRepeat t repeat_lts.After-guard = search in
     let s : InRepeat t repeat_lts.Start = search in
-    let truth = truth_told _ _ _ v.value.given.1 e.guard.ensures in
-    let went_on = went_told _ _ _ z.enum-told3.given.1 b.execute.ensures.0 in
-    let h = no_higher s.pre.1.1.1.0.is (looped t s) _ truth went_on in
-    let more = some.if2.left in
+    let truth = truth_told _ _ _ v.in-Of.is e.guard.ensures in
+    let went_on = went_told _ _ _ z.in-On.is b.execute.ensures.0 in
+    let h = no_higher s.requires.1.1.1.0.is (looped t s) _ truth went_on in
+    let more = some.if-left-eq0.false in
     omega arith)
     -- loop-again
     (λ c.
-    let some : InRepeat t repeat_lts.Else2 = search in
-    let z : InRepeat t repeat_lts.After-enum-told3 = search in
+    let some : InRepeat t repeat_lts.Else-left-eq0 = search in
+    let z : InRepeat t repeat_lts.In-On = search in
     let b : InRepeat t repeat_lts.After-execute = search in
-    let on : InRepeat t repeat_lts.Else1 = search in
-    let v : InRepeat t repeat_lts.After-value = search in
+    let on : InRepeat t repeat_lts.Else-not-value = search in
+    let v : InRepeat t repeat_lts.In-Of = search in
     let e : InRepeat t repeat_lts.After-guard = search in
-    let l : InRepeat t repeat_lts.At-loop = search in
+    let l : InRepeat t repeat_lts.At-loop-value = search in
     let s : InRepeat t repeat_lts.Start = search in
-    let w = s.pre.1.1.1.0.is in
-    let truth = truth_told _ _ _ v.value.given.1 e.guard.ensures in
-    let went_on = went_told _ _ _ z.enum-told3.given.1 b.execute.ensures.0 in
-    let again = turn_again w (looped t s) _ truth (not_false _ on.if1.left) went_on some.if2.left in
-    record { long = b.execute.ensures.1; same = sym again ∙ l.loop.inv.same }))
+    let w = s.requires.1.1.1.0.is in
+    let truth = truth_told _ _ _ v.in-Of.is e.guard.ensures in
+    let went_on = went_told _ _ _ z.in-On.is b.execute.ensures.0 in
+    let again = turn_again w (looped t s) _ truth (on.if-not-value.false) went_on some.if-left-eq0.false in
+    record { long = b.execute.ensures.1; same = sym again ∙ l.loop-value.invariant.same }))

@@ -25,37 +25,37 @@ parts : (s : tie.Start) → let a = s.args in let v = get_or a.text.now (a.at + 
     s.requires.1.1.0.end
 parts s = assignment_at _ _ _ s.requires.1.1.0.is s.requires.0
 
-returns : tie.Need-returns
+returns : tie.Need-returns-in-Spent
 returns c =
-    let z : tie.After-high = search in
-    let e : tie.After-right-side = search in
+    let z : tie.In-Spent = search in
+    let e : tie.After-right_side = search in
     let s : tie.Start = search in
     let μ = s.args.mark.now in
-    let stops = value_told _ 0 μ _ z.high.given.1 (e.right_side.ensures 0 μ (omega arith)) in
-    let high : c.raise.new.0 ≡ max μ (0 + z.high.given.0.0) = omega (arith, c.raise.ensures) in (
-      ap (λ k. ended (spent, ending e.right_side.last.1.1.1.1.0 k s.args.store.now)) high
-          ∙ sym (assign_ended _ s.pre.1.1.0.is (parts s).2 _ stops),
-      s.pre.1.1.1,
+    let stops = value_told _ 0 μ _ z.in-Spent.is (e.right_side.ensures 0 μ (omega arith)) in
+    let high : c.raise.new.mark ≡ max μ (0 + z.in-Spent.high) = omega (arith, c.raise.ensures) in (
+      ap (λ k. ended (spent, ending e.right_side.new.left k s.args.store.now)) high
+          ∙ sym (assign_ended _ s.requires.1.1.0.is (parts s).2 _ stops),
+      s.requires.1.1.1,
     )
 
-returns_2 : tie.Need-returns-2
+returns_2 : tie.Need-returns-in-Of
 returns_2 c =
-    let k : tie.After-known-told2 = search in
-    let g : tie.After-raise2 = search in
-    let x : tie.After-value = search in
-    let e : tie.After-right-side = search in
+    let k : tie.In-Of = search in
+    let g : tie.After-raise-in-Of = search in
+    let x : tie.In-Of = search in
+    let e : tie.After-right_side = search in
     let s : tie.Start = search in
     let a = s.args in
     let μ = a.mark.now in
-    let r = x.value.given.0 in
-    let value = value_told _ 0 μ _ x.value.given.1 (e.right_side.ensures 0 μ (omega arith)) in
-    let high : g.raise2.last.0 ≡ max μ (0 + r.1.0) = omega (arith, g.raise2.ensures) in
-    let fits = to_z-of_z {w = w32} {z = r.0} (record { sfits = k.known-told2.given.0.1 }) in
+    let r = x.in-Of in
+    let value = value_told _ 0 μ _ x.in-Of.is (e.right_side.ensures 0 μ (omega arith)) in
+    let high : g.raise-in-Of.new.mark ≡ max μ (0 + r.high) = omega (arith, g.raise-in-Of.ensures) in
+    let fits = to_z-of_z {w = w32} {z = r.value} (record { sfits = k.in-Of.known_told-in-Of-1-own.given.0.1 }) in
     let v = get_or a.text.now (a.at + 1) 0 in
-    let rest = e.right_side.last.1.1.1.1.0 in (
+    let rest = e.right_side.new.left in (
       c.stored.ensures.0 _
-          ∙ (λ i. reaching r.1.1.0 (storing v (fits i) (state rest 1 (high i) a.store.now)))
-          ∙ sym (assign_ok _ s.pre.1.1.0.is (parts s).2 _ value),
+          ∙ (λ i. reaching r.next (storing v (fits i) (state rest 1 (high i) a.store.now)))
+          ∙ sym (assign_ok _ s.requires.1.1.0.is (parts s).2 _ value),
       c.stored.ensures.1,
     )
 
@@ -64,25 +64,25 @@ assignment_spec =
     tie.close
     (tie.spec
     -- add-right-side
-    (λ c. let s : tie.Start = search in let w = (parts s).0 in omega (arith, s.pre.1.0))
+    (λ c. let s : tie.Start = search in let w = (parts s).0 in omega (arith, s.requires.1.0))
     -- sub-right-side
-    (λ c. let s : tie.Start = search in (command_opened _ _ _ s.pre.1.1.0.is).nested)
+    (λ c. let s : tie.Start = search in (command_opened _ _ _ s.requires.1.1.0.is).nested)
     -- right-side-requires
-    (λ c κs. let s : tie.Start = search in (s.pre.1.0, was_read (parts s).2.read))
+    (λ c κs. let s : tie.Start = search in (s.requires.1.0, was_read (parts s).2.read))
     (λ c. search rules)
     (λ c κs. search rules)
     (λ c. search rules)
     (λ c κs. search rules)
     -- add-stored
-    (λ c. let s : tie.Start = search in let w = (parts s).0 in omega (arith, s.pre.1.0))
+    (λ c. let s : tie.Start = search in let w = (parts s).0 in omega (arith, s.requires.1.0))
     -- element-copy-out-stored
-    (λ c. let s : tie.Start = search in let w = (parts s).0 in omega (arith, s.pre.1.0))
+    (λ c. let s : tie.Start = search in let w = (parts s).0 in omega (arith, s.requires.1.0))
     -- cast-stored
     (λ c. let s : tie.Start = search in let v = (parts s).1 in omega arith)
     -- stored-requires
     (λ c κs.
     let s : tie.Start = search in
     let v = (parts s).1 in
-    (omega arith, s.pre.1.1.1))
+    (omega arith, s.requires.1.1.1))
     returns
     returns_2)

@@ -7,15 +7,15 @@ use Rattle.source_values.proofs.Steps.{tick_none, tick_one}
 use Rattle.source_commands.proofs.ticked.Statement.{statement}
 use Rattle.source_commands.proofs.ticked.Tie as tie
 
-returns : tie.Need-returns
+returns : tie.Need-returns-then-left-eq0
 unfolding then' give
-returns c μ m = sym (ap (reaching _) (tick_none _ c.if1.true))
+returns c μ m = sym (ap (reaching _) (tick_none _ c.if-left-eq0.true))
 
-returns_2 : tie.Need-returns-2
+returns_2 : tie.Need-returns
 unfolding then' give
 returns_2 c μ m =
-    let some : tie.Else1 = search in
-    sym (ap (reaching _) (tick_one _ some.if1.left))
+    let some : tie.Else-left-eq0 = search in
+    sym (ap (reaching _) (tick_one _ some.if-left-eq0.false))
 
 pub ticked_spec : {M : Type 1} → statement M
 ticked_spec = tie.close (tie.spec returns (λ c. search rules) returns_2)

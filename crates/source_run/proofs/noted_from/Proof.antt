@@ -10,10 +10,10 @@ noted_from_spec =
     tie.close
     (tie.spec
     -- returns
-    (λ c. let s : tie.Start = search in simp (le-leb s.args.budget 16 c.if1.true))
+    (λ c. let s : tie.Start = search in simp (le-leb s.args.budget 16 c.if-budget-le-FEW_TICKS.true))
     (λ c κs. search rules)
     -- returns-2
     (λ c.
-    let off : tie.Else1 = search in
+    let off : tie.Else-budget-le-FEW_TICKS = search in
     let s : tie.Start = search in
-    c.first-loop.ensures ∙ simp (lt-leb s.args.budget 16 off.if1.left)))
+    c.first_loop.ensures ∙ simp (lt-leb s.args.budget 16 off.if-budget-le-FEW_TICKS.false)))

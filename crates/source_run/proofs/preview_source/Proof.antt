@@ -20,32 +20,32 @@ preview_source_spec =
     (λ c. search rules)
     -- copy-cells-requires
     (λ c κs.
-    let x : tie.After-enum-told = search in
+    let x : tie.In-Accepted = search in
     let r : tie.After-test = search in
-    let p = passed _ _ r.test.ensures x.enum_told.given.1 in
+    let p = passed _ _ r.test.ensures x.in-Accepted.is in
     omega (arith, p.long, length-replicate 64 (pos 0)))
     -- run-text-requires
     (λ c κs.
-    let k : tie.After-copy-cells = search in
-    let x : tie.After-enum-told = search in
+    let k : tie.After-copy_cells = search in
+    let x : tie.In-Accepted = search in
     let r : tie.After-test = search in
-    let p = passed _ _ r.test.ensures x.enum_told.given.1 in
-    ((p.text_command, p.is), ap length k.copy-cells.ensures ∙ p.long))
+    let p = passed _ _ r.test.ensures x.in-Accepted.is in
+    ((p.text_command, p.is), ap length k.copy_cells.ensures ∙ p.long))
     -- returns
     (λ c.
-    let x : tie.After-refusal = search in
+    let x : tie.In-Refused = search in
     let r : tie.After-test = search in
-    (c.decline.ensures ∙ preview_declines _ _ _ r.test.ensures x.refusal.given.1, refl))
+    (c.decline.ensures ∙ preview_declines _ _ _ r.test.ensures x.in-Refused.is, refl))
     -- returns-2
     (λ c.
-    let t : tie.After-run-text = search in
-    let k : tie.After-copy-cells = search in
-    let x : tie.After-enum-told = search in
+    let t : tie.After-run_text = search in
+    let k : tie.After-copy_cells = search in
+    let x : tie.In-Accepted = search in
     let r : tie.After-test = search in
     let s : tie.Start = search in
-    let p = passed _ _ r.test.ensures x.enum_told.given.1 in (
-      t.run-text.ensures.0 p.text_command p.is
-          ∙ ap (runs p.text_command s.args.budget) k.copy-cells.ensures
+    let p = passed _ _ r.test.ensures x.in-Accepted.is in (
+      t.run_text.ensures.0 p.text_command p.is
+          ∙ ap (runs p.text_command s.args.budget) k.copy_cells.ensures
           ∙ runs_preview _ _ p s.args.budget,
       refl,
     )))

@@ -16,13 +16,13 @@ report_spec =
     (λ c. search rules)
     -- returns
     (λ c.
-    let p : tie.After-enum-told = search in
+    let p : tie.In-On = search in
     let s : tie.Start = search in
     let a = s.args in
-    sym (ap (λ p. gives (told p a.budget a.left a.mark)) p.enum_told.given.1))
+    sym (ap (λ p. gives (told p a.budget a.left a.mark)) p.in-On.is))
     -- returns-2
     (λ c.
-    let p : tie.After-enum-told2 = search in
+    let p : tie.In-Spent = search in
     let s : tie.Start = search in
     let a = s.args in
-    sym (ap (λ p. gives (told p a.budget a.left a.mark)) p.enum-told2.given.1)))
+    sym (ap (λ p. gives (told p a.budget a.left a.mark)) p.in-Spent.is)))

@@ -12,15 +12,15 @@ run_command_spec =
     (λ c κs. search rules)
     -- report-requires
     (λ c κs.
-    let e : tie.After-execute = search in
+    let e : tie.After-execute-progress = search in
     let s : tie.Start = search in
-    (tells _ s.pre.1.0.is _ _ e.execute.result _ _ _ e.execute.ensures.0).few)
+    (tells _ s.requires.1.0.is _ _ e.execute-progress.result _ _ _ e.execute-progress.ensures.0).few)
     -- returns
     (λ c.
-    let e : tie.After-execute = search in
-    let m = e.execute.last.1.1.1.0 in (
+    let e : tie.After-execute-progress = search in
+    let m = e.execute-progress.new.store in (
       λ k n part.
           ap (λ a. (a, m)) c.report.ensures
-          ∙ (tells _ part _ _ e.execute.result _ _ m e.execute.ensures.0).same,
-      e.execute.ensures.1,
+          ∙ (tells _ part _ _ e.execute-progress.result _ _ m e.execute-progress.ensures.0).same,
+      e.execute-progress.ensures.1,
     )))

@@ -11,9 +11,9 @@ run_noted_spec =
     (λ c κs. search rules)
     -- run-command-requires
     (λ c κs.
-    let n : tie.After-note-ends = search in
+    let n : tie.After-note_ends = search in
     let s : tie.Start = search in
-    let l = s.pre.0 in
-    (l.long, (laid_read l, (s.pre.1.0, laid_ends l n.note-ends.ensures))))
+    let l = s.requires.0 in
+    (l.long, (laid_read l, (s.requires.1.0, laid_ends l n.note_ends.ensures))))
     (λ c. search rules)
     (λ c. search rules))

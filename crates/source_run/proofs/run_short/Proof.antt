@@ -10,5 +10,5 @@ run_short_spec =
     tie.close
     (tie.spec
     (λ c. search rules)
-    (λ c κs. let s : tie.Start = search in (s.pre.0, (s.pre.1, (knows_nothing 256, refl))))
+    (λ c κs. let s : tie.Start = search in (s.requires.0, (s.requires.1, (knows_nothing 256, refl))))
     (λ c. search rules))

@@ -21,42 +21,42 @@ run_source_spec =
     (λ c. search rules)
     -- copy-cells-requires
     (λ c κs.
-    let x : tie.After-enum-told = search in
+    let x : tie.In-Accepted = search in
     let r : tie.After-test = search in
-    let p = passed _ _ r.test.ensures x.enum_told.given.1 in
+    let p = passed _ _ r.test.ensures x.in-Accepted.is in
     omega (arith, p.long, length-replicate 64 (pos 0)))
     -- run-text-requires
     (λ c κs.
-    let k : tie.After-copy-cells = search in
-    let x : tie.After-enum-told = search in
+    let k : tie.After-copy_cells = search in
+    let x : tie.In-Accepted = search in
     let r : tie.After-test = search in
-    let p = passed _ _ r.test.ensures x.enum_told.given.1 in
-    ((p.text_command, p.is), ap length k.copy-cells.ensures ∙ p.long))
+    let p = passed _ _ r.test.ensures x.in-Accepted.is in
+    ((p.text_command, p.is), ap length k.copy_cells.ensures ∙ p.long))
     (λ c. search rules)
     -- copy-cells-requires-2
     (λ c κs.
-    let t : tie.After-run-text = search in
-    let x : tie.After-enum-told = search in
+    let t : tie.After-run_text-run = search in
+    let x : tie.In-Accepted = search in
     let r : tie.After-test = search in
-    let p = passed _ _ r.test.ensures x.enum_told.given.1 in
-    omega (arith, p.long, t.run-text.ensures.1))
+    let p = passed _ _ r.test.ensures x.in-Accepted.is in
+    omega (arith, p.long, t.run_text-run.ensures.1))
     (λ c. search rules)
     -- returns
     (λ c.
-    let x : tie.After-refusal = search in
+    let x : tie.In-Refused = search in
     let r : tie.After-test = search in
-    run_declines _ _ _ r.test.ensures x.refusal.given.1)
+    run_declines _ _ _ r.test.ensures x.in-Refused.is)
     (λ c. search rules)
     -- returns-2
     (λ c.
-    let b : tie.After-copy-cells2 = search in
-    let t : tie.After-run-text = search in
-    let k : tie.After-copy-cells = search in
-    let x : tie.After-enum-told = search in
+    let b : tie.After-copy_cells-in-Accepted = search in
+    let t : tie.After-run_text-run = search in
+    let k : tie.After-copy_cells = search in
+    let x : tie.In-Accepted = search in
     let r : tie.After-test = search in
     let s : tie.Start = search in
-    let p = passed _ _ r.test.ensures x.enum_told.given.1 in
-    ap (λ m. (run_answer t.run-text.result, m)) b.copy-cells2.ensures
-    ∙ t.run-text.ensures.0 p.text_command p.is
-    ∙ ap (runs p.text_command s.args.budget) k.copy-cells.ensures
+    let p = passed _ _ r.test.ensures x.in-Accepted.is in
+    ap (λ m. (run_answer t.run_text-run.result, m)) b.copy_cells-in-Accepted.ensures
+    ∙ t.run_text-run.ensures.0 p.text_command p.is
+    ∙ ap (runs p.text_command s.args.budget) k.copy_cells.ensures
     ∙ runs_source _ _ p s.args.budget))

@@ -29,40 +29,40 @@ run_text_spec =
     -- copy-bytes-requires
     (λ c κs.
     let s : tie.Start = search in
-    omega (arith, (taken _ s.pre.0.1).short, length-replicate {A = ℕ} 4096 0))
+    omega (arith, (taken _ s.requires.0.1).short, length-replicate {A = ℕ} 4096 0))
     (λ c κs. search rules)
     (λ c. search rules)
     -- run-command-requires
     (λ c κs.
-    let b : tie.After-copy-bytes = search in
+    let b : tie.After-copy_bytes = search in
     let s : tie.Start = search in
-    let l = over_zeros s.pre.0.1 b.copy-bytes.ensures in
-    (l.long, (laid_read l, (s.pre.1, knows_nothing 1))))
+    let l = over_zeros s.requires.0.1 b.copy_bytes.ensures in
+    (l.long, (laid_read l, (s.requires.1, knows_nothing 1))))
     -- returns
     (λ c.
-    let b : tie.After-copy-bytes = search in
+    let b : tie.After-copy_bytes = search in
     let s : tie.Start = search in
-    let l = over_zeros s.pre.0.1 b.copy-bytes.ensures in
-    (runs_laid s.args.budget s.args.store.now l c.run-command.ensures.0, c.run-command.ensures.1))
+    let l = over_zeros s.requires.0.1 b.copy_bytes.ensures in
+    (runs_laid s.args.budget s.args.store.now l c.run_command.ensures.0, c.run_command.ensures.1))
     -- run-short-requires
     (λ c κs.
-    let b : tie.After-copy-bytes = search in
+    let b : tie.After-copy_bytes = search in
     let s : tie.Start = search in
-    (over_zeros s.pre.0.1 b.copy-bytes.ensures, s.pre.1))
+    (over_zeros s.requires.0.1 b.copy_bytes.ensures, s.requires.1))
     -- returns-2
     (λ c.
-    let b : tie.After-copy-bytes = search in
+    let b : tie.After-copy_bytes = search in
     let s : tie.Start = search in
-    let l = over_zeros s.pre.0.1 b.copy-bytes.ensures in
+    let l = over_zeros s.requires.0.1 b.copy_bytes.ensures in
     (runs_laid s.args.budget s.args.store.now l c.run_short.ensures.0, c.run_short.ensures.1))
     -- run-long-requires
     (λ c κs.
-    let b : tie.After-copy-bytes = search in
+    let b : tie.After-copy_bytes = search in
     let s : tie.Start = search in
-    (over_zeros s.pre.0.1 b.copy-bytes.ensures, s.pre.1))
+    (over_zeros s.requires.0.1 b.copy_bytes.ensures, s.requires.1))
     -- returns-3
     (λ c.
-    let b : tie.After-copy-bytes = search in
+    let b : tie.After-copy_bytes = search in
     let s : tie.Start = search in
-    let l = over_zeros s.pre.0.1 b.copy-bytes.ensures in
+    let l = over_zeros s.requires.0.1 b.copy_bytes.ensures in
     (runs_laid s.args.budget s.args.store.now l c.run_long.ensures.0, c.run_long.ensures.1)))

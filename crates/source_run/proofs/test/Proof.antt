@@ -15,19 +15,19 @@ test_spec =
     (λ c. search rules)
     -- returns
     (λ c.
-    let r : tie.After-read = search in
-    let is = ap sizes_answer c.enum-told2.given.1 in
-    is ∙ tests_refused _ _ (sym is ∙ r.read.ensures))
+    let r : tie.After-read-reading = search in
+    let is = ap sizes_answer c.in_default.is in
+    is ∙ tests_refused _ _ (sym is ∙ r.read-reading.ensures))
     (λ c κs. search rules)
     -- returns-2
     (λ c.
-    let x : tie.After-enum-told = search in
-    let r : tie.After-read = search in
-    let is = ap sizes_answer x.enum_told.given.1 in
-    c.decline.ensures ∙ tests_wrong_length _ _ (sym is ∙ r.read.ensures) c.before.if1.true)
+    let x : tie.In-Accepted = search in
+    let r : tie.After-read-reading = search in
+    let is = ap sizes_answer x.in-Accepted.is in
+    c.decline.ensures ∙ tests_wrong_length _ _ (sym is ∙ r.read-reading.ensures) c.before.if-store-ne-VARIABLES.true)
     -- returns-3
     (λ c.
-    let x : tie.After-enum-told = search in
-    let r : tie.After-read = search in
-    let is = ap sizes_answer x.enum_told.given.1 in
-    is ∙ tests_passed _ _ (sym is ∙ r.read.ensures) c.if1.false))
+    let x : tie.In-Accepted = search in
+    let r : tie.After-read-reading = search in
+    let is = ap sizes_answer x.in-Accepted.is in
+    is ∙ tests_passed _ _ (sym is ∙ r.read-reading.ensures) c.if-store-ne-VARIABLES.false))

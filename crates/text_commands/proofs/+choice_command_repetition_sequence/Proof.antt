@@ -298,4 +298,4 @@ unfolding command_of decline
     let x : InSequence t sequence_lts.In-Read = search in
     let r : InSequence t sequence_lts.After-command-first = search in
     two _ commands commands commands ◌⨾◌ (reading _ _) (reading _ _) _ _ _ _ _ 0 0 sequence_alike
-    r.command-first.ensures x.in-Read.is c.before.command-second.ensures c.joined.ensures))
+    r.command-first.ensures x.in-Read.is c.before.command.ensures c.joined.ensures))

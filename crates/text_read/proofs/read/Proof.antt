@@ -13,37 +13,37 @@ read_spec =
     tie.close
     (tie.spec
     (λ c κs. search rules)
-    (λ c. let long : tie.Then1 = search in c.decline.ensures ∙ too_long _ long.if1.taken)
+    (λ c. let long : tie.Then-text-gt-LONGEST = search in c.decline.ensures ∙ too_long _ long.if-text-gt-LONGEST.true)
     (λ c κs. search rules)
     (λ c. search rules)
     (λ c κs. search rules)
     (λ c. search rules)
     (λ c κs. search rules)
     (λ c.
-    let more : tie.Then2 = search in
-    let part : tie.After-records = search in
+    let more : tie.Then-next-text = search in
+    let part : tie.In-Read = search in
     let r : tie.After-command = search in
-    let short : tie.Else1 = search in
-    c.decline3.ensures
-    ∙ call_left_over _ short.if1.left _ refl _ _ r.command.ensures part.records.given.1
-    more.if2.taken)
+    let short : tie.Else-text-gt-LONGEST = search in
+    c.decline-then-next-text.ensures
+    ∙ call_left_over _ short.if-text-gt-LONGEST.false _ refl _ _ r.command.ensures part.in-Read.is
+    more.if-next-text.true)
     (λ c. search rules)
     (λ c. search rules)
     (λ c.
-    let part : tie.After-records = search in
+    let part : tie.In-Read = search in
     let r : tie.After-command = search in
-    sym (as_many commands _ _ _ r.command.ensures part.records.given.1))
+    sym (as_many commands _ _ _ r.command.ensures part.in-Read.is))
     (λ c κs. search rules)
     (λ c.
-    let part : tie.After-number = search in
+    let part : tie.In-Refused = search in
     let r : tie.After-command = search in
-    let short : tie.Else1 = search in
-    c.decline2.ensures
-    ∙ call_refused _ short.if1.left _ refl _ _ r.command.ensures part.number.given.1)
+    let short : tie.Else-text-gt-LONGEST = search in
+    c.decline-in-Refused.ensures
+    ∙ call_refused _ short.if-text-gt-LONGEST.false _ refl _ _ r.command.ensures part.in-Refused.is)
     (λ c.
-    let all : tie.Else2 = search in
-    let part : tie.After-records = search in
+    let all : tie.Else-next-text = search in
+    let part : tie.In-Read = search in
     let r : tie.After-command = search in
-    let short : tie.Else1 = search in
-    rw c.count-named.ensures
-    (call_accepted _ short.if1.left _ refl _ r.command.ensures part.records.given.1 all.if2.left)))
+    let short : tie.Else-text-gt-LONGEST = search in
+    rw c.count_named.ensures
+    (call_accepted _ short.if-text-gt-LONGEST.false _ refl _ r.command.ensures part.in-Read.is all.if-next-text.false)))
