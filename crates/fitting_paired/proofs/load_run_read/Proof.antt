@@ -15,26 +15,26 @@ load_run_read_spec =
     -- to-memory-requires
     (λ c κs.
     let s : tie.Start = search in
-    fits _ _ _ _ s.pre.0 s.pre.1 refl)
+    fits _ _ _ _ s.requires.0 s.requires.1 refl)
     -- run-tested-requires
     (λ c κs.
-    let l : tie.After-to-memory = search in
+    let l : tie.After-to_memory = search in
     let s : tie.Start = search in
-    (named_in s.args.table.now, runs_tested _ _ _ _ s.pre.0 s.pre.1 l.to-memory.ensures))
+    (named_in s.args.table.now, runs_tested _ _ _ _ s.requires.0 s.requires.1 l.to_memory.ensures))
     -- to-store-requires
     (λ c κs.
-    let run : tie.After-run-tested = search in
-    let l : tie.After-to-memory = search in
+    let run : tie.After-run_tested-run = search in
+    let l : tie.After-to_memory = search in
     let s : tie.Start = search in
-    fits _ _ _ _ s.pre.0 s.pre.1 (omega (arith, run.run-tested.kept, l.to-memory.kept)))
+    fits _ _ _ _ s.requires.0 s.requires.1 (omega (arith, run.run_tested-run.auto, l.to_memory.auto)))
     (λ c. search rules)
     (λ c. search rules)
     -- returns
     (λ c.
-    let back : tie.After-to-store = search in
-    let run : tie.After-run-tested = search in
-    let l : tie.After-to-memory = search in
+    let back : tie.After-to_store = search in
+    let run : tie.After-run_tested-run = search in
+    let l : tie.After-to_memory = search in
     let s : tie.Start = search in
-    read_back_is _ _ _ _ s.pre.0 s.pre.1 l.to-memory.ensures s.args.budget
-    (run.run-tested.ensures _ (runs_tested _ _ _ _ s.pre.0 s.pre.1 l.to-memory.ensures))
-    back.to-store.ensures))
+    read_back_is _ _ _ _ s.requires.0 s.requires.1 l.to_memory.ensures s.args.budget
+    (run.run_tested-run.ensures _ (runs_tested _ _ _ _ s.requires.0 s.requires.1 l.to_memory.ensures))
+    back.to_store.ensures))

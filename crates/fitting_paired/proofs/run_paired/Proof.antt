@@ -23,11 +23,11 @@ demanded : (code t : List ℕ) (store left : Store) (D budget : ℕ) (x : Answer
 demanded code t store left D budget x e text pair = sym (e ∙ paired_fitted text code t D pair store budget)
 
 -- 129 cells are enough
-enough : tie.Need-array-borrow-prefix-memory
+enough : tie.Need-slice_bounds-memory-end
 enough c =
-    let arm : tie.After-sizes = search in
+    let arm : tie.In-Accepted = search in
     let t : tie.After-test = search in
-    room _ _ _ _ (sym t.test.ensures ∙ ap sizes_answer arm.sizes.given.1)
+    room _ _ _ _ (sym t.test.ensures ∙ ap sizes_answer arm.in-Accepted.is)
 
 pub run_paired_spec : {M : Type 1} → statement M
 run_paired_spec =
@@ -37,44 +37,44 @@ run_paired_spec =
     (λ c. search rules)
     (λ c. search rules)
     (λ c.
-    let arm : tie.After-sizes = search in
+    let arm : tie.In-Accepted = search in
     let t : tie.After-test = search in
-    omega (arith, room _ _ _ _ (sym t.test.ensures ∙ ap sizes_answer arm.sizes.given.1)))
+    omega (arith, room _ _ _ _ (sym t.test.ensures ∙ ap sizes_answer arm.in-Accepted.is)))
     (λ c.
-    let arm : tie.After-sizes = search in
+    let arm : tie.In-Accepted = search in
     let t : tie.After-test = search in
-    omega (arith, room _ _ _ _ (sym t.test.ensures ∙ ap sizes_answer arm.sizes.given.1)))
+    omega (arith, room _ _ _ _ (sym t.test.ensures ∙ ap sizes_answer arm.in-Accepted.is)))
     enough
     -- slice-aggregate-load-run-read
     (λ c.
-    let arm : tie.After-sizes = search in
+    let arm : tie.In-Accepted = search in
     let t : tie.After-test = search in
-    zeros_long _ 129 (room _ _ _ _ (sym t.test.ensures ∙ ap sizes_answer arm.sizes.given.1)))
+    zeros_long _ 129 (room _ _ _ _ (sym t.test.ensures ∙ ap sizes_answer arm.in-Accepted.is)))
     -- load-run-read-requires
     (λ c κs.
-    let arm : tie.After-sizes = search in
+    let arm : tie.In-Accepted = search in
     let t : tie.After-test = search in
-    let e = sym t.test.ensures ∙ ap sizes_answer arm.sizes.given.1 in
+    let e = sym t.test.ensures ∙ ap sizes_answer arm.in-Accepted.is in
     (passes_own _ _ _ _ e, zeros_taken _ 129 (room _ _ _ _ e)))
     (λ c. search rules)
     -- it declines
     (λ c.
-    let r : tie.After-refusal = search in
+    let r : tie.In-Refused = search in
     let t : tie.After-test = search in
     let s : tie.Start = search in
     let a = s.args in
     let e = pair_declines a.code.now a.table.now a.store.now a.depth a.budget
-    (sym t.test.ensures ∙ ap sizes_answer r.refusal.given.1) in
+    (sym t.test.ensures ∙ ap sizes_answer r.in-Refused.is) in
     (e, demanded a.code.now a.table.now a.store.now _ a.depth a.budget _ e))
     (λ c. search rules)
     -- or runs
     (λ c.
-    let run : tie.After-load-run-read = search in
-    let arm : tie.After-sizes = search in
+    let run : tie.After-load_run_read = search in
+    let arm : tie.In-Accepted = search in
     let t : tie.After-test = search in
     let s : tie.Start = search in
     let a = s.args in
     let e = run.load_run_read.ensures
     ∙ ap (λ D. run_paired a.code.now a.table.now a.store.now D a.budget)
-    (own_depth _ _ _ _ (sym t.test.ensures ∙ ap sizes_answer arm.sizes.given.1)) in
+    (own_depth _ _ _ _ (sym t.test.ensures ∙ ap sizes_answer arm.in-Accepted.is)) in
     (e, demanded a.code.now a.table.now a.store.now _ a.depth a.budget _ e)))

@@ -16,34 +16,34 @@ test_spec =
     (λ c κs. search rules)
     -- 9
     (λ c.
-    let no : tie.Then1 = search in
-    let w : tie.After-is-whole = search in
-    c.decline.ensures ∙ not_whole _ _ _ _ (sym w.is_whole.ensures ∙ not-true _ no.if1.taken))
+    let no : tie.Then-not-is_whole = search in
+    let w : tie.After-is_whole = search in
+    c.decline.ensures ∙ not_whole _ _ _ _ (sym w.is_whole.ensures ∙ no.if-not-is_whole.true))
     (λ c κs. search rules)
     (λ c. search rules)
     (λ c. search rules)
     -- test-pair-requires
     (λ c κs.
-    let n : tie.After-n = search in
-    let t : tie.After-test-table = search in
-    let whole : tie.Else1 = search in
-    let w : tie.After-is-whole = search in (
-      sym w.is_whole.ensures ∙ not-false _ whole.if1.left,
-      names_few _ _ (answers t.test_table.ensures n.n.given.1),
+    let n : tie.In-Gives = search in
+    let t : tie.After-test_table = search in
+    let whole : tie.Else-not-is_whole = search in
+    let w : tie.After-is_whole = search in (
+      sym w.is_whole.ensures ∙ whole.if-not-is_whole.false,
+      names_few _ _ (answers t.test_table.ensures n.in-Gives.is),
     ))
     -- 8, 12
     (λ c.
-    let r : tie.After-refusal = search in
-    let t : tie.After-test-table = search in
-    let whole : tie.Else1 = search in
-    let w : tie.After-is-whole = search in
-    no_names _ _ _ _ (sym w.is_whole.ensures ∙ not-false _ whole.if1.left)
-    (answers t.test_table.ensures r.refusal.given.1))
+    let r : tie.In-Refused = search in
+    let t : tie.After-test_table = search in
+    let whole : tie.Else-not-is_whole = search in
+    let w : tie.After-is_whole = search in
+    no_names _ _ _ _ (sym w.is_whole.ensures ∙ whole.if-not-is_whole.false)
+    (answers t.test_table.ensures r.in-Refused.is))
     -- 10, 14, 11, or the sizes
     (λ c.
-    let n : tie.After-n = search in
-    let t : tie.After-test-table = search in
-    let whole : tie.Else1 = search in
-    let w : tie.After-is-whole = search in
-    with_names _ _ _ _ (sym w.is_whole.ensures ∙ not-false _ whole.if1.left)
-    (answers t.test_table.ensures n.n.given.1) c.test-pair.ensures))
+    let n : tie.In-Gives = search in
+    let t : tie.After-test_table = search in
+    let whole : tie.Else-not-is_whole = search in
+    let w : tie.After-is_whole = search in
+    with_names _ _ _ _ (sym w.is_whole.ensures ∙ whole.if-not-is_whole.false)
+    (answers t.test_table.ensures n.in-Gives.is) c.test_pair.ensures))

@@ -9,35 +9,35 @@ use Rattle.fitting_paired.proofs.test_pair.Tie as tie
 
 asked : tie.Need-agrees-requires
 asked c κs =
-    let arm : tie.After-count = search in
-    let t : tie.After-test-machine = search in
+    let arm : tie.In-Gives = search in
+    let t : tie.After-test_machine = search in
     let s : tie.Start = search in
-    passes _ _ _ _ (counted_records _ _ s.args.depth s.pre.0 arm.count.given.1 t.test-machine.ensures)
-    s.pre.1
+    passes _ _ _ _ (counted_records _ _ s.args.depth s.requires.0 arm.in-Gives.is t.test_machine.ensures)
+    s.requires.1
 
-fourteen : tie.Need-returns
+fourteen : tie.Need-returns-then-not-agrees
 fourteen c =
-    let no : tie.Then1 = search in
+    let no : tie.Then-not-agrees = search in
     let a : tie.After-agrees = search in
-    let arm : tie.After-count = search in
-    let t : tie.After-test-machine = search in
+    let arm : tie.In-Gives = search in
+    let t : tie.After-test_machine = search in
     let s : tie.Start = search in
-    let x = counted_records _ _ s.args.depth s.pre.0 arm.count.given.1 t.test-machine.ensures in
+    let x = counted_records _ _ s.args.depth s.requires.0 arm.in-Gives.is t.test_machine.ensures in
     c.decline.ensures
-    ∙ disagree _ _ _ _ x (sym (a.agrees.ensures (passes _ _ _ _ x s.pre.1)) ∙ not-true _ no.if1.taken)
+    ∙ disagree _ _ _ _ x (sym (a.agrees.ensures (passes _ _ _ _ x s.requires.1)) ∙ no.if-not-agrees.true)
 
-eleven : tie.Need-returns-2
+eleven : tie.Need-returns-then-depth
 eleven c =
-    let no : tie.Then2 = search in
-    let on : tie.Else1 = search in
+    let no : tie.Then-depth = search in
+    let on : tie.Else-not-agrees = search in
     let a : tie.After-agrees = search in
-    let arm : tie.After-count = search in
-    let t : tie.After-test-machine = search in
+    let arm : tie.In-Gives = search in
+    let t : tie.After-test_machine = search in
     let s : tie.Start = search in
-    let x = counted_records _ _ s.args.depth s.pre.0 arm.count.given.1 t.test-machine.ensures in
-    c.decline2.ensures
-    ∙ too_deep _ _ _ _ x (sym (a.agrees.ensures (passes _ _ _ _ x s.pre.1)) ∙ not-false _ on.if1.left)
-    no.if2.taken
+    let x = counted_records _ _ s.args.depth s.requires.0 arm.in-Gives.is t.test_machine.ensures in
+    c.decline-then-depth.ensures
+    ∙ too_deep _ _ _ _ x (sym (a.agrees.ensures (passes _ _ _ _ x s.requires.1)) ∙ on.if-not-agrees.false)
+    no.if-depth.true
 
 pub test_pair_spec : {M : Type 1} → statement M
 test_pair_spec =
@@ -53,17 +53,17 @@ test_pair_spec =
     eleven
     -- 10
     (λ c.
-    let r : tie.After-refusal = search in
-    let t : tie.After-test-machine = search in
+    let r : tie.In-Refused = search in
+    let t : tie.After-test_machine = search in
     let s : tie.Start = search in
-    no_record _ _ s.args.depth s.pre.0 r.refusal.given.1 t.test-machine.ensures)
+    no_record _ _ s.args.depth s.requires.0 r.in-Refused.is t.test_machine.ensures)
     -- none
     (λ c.
-    let on : tie.Else1 = search in
+    let on : tie.Else-not-agrees = search in
     let a : tie.After-agrees = search in
-    let arm : tie.After-count = search in
-    let t : tie.After-test-machine = search in
+    let arm : tie.In-Gives = search in
+    let t : tie.After-test_machine = search in
     let s : tie.Start = search in
-    let x = counted_records _ _ s.args.depth s.pre.0 arm.count.given.1 t.test-machine.ensures in
-    all_passed _ _ _ _ x (sym (a.agrees.ensures (passes _ _ _ _ x s.pre.1)) ∙ not-false _ on.if1.left)
-    c.if2.false))
+    let x = counted_records _ _ s.args.depth s.requires.0 arm.in-Gives.is t.test_machine.ensures in
+    all_passed _ _ _ _ x (sym (a.agrees.ensures (passes _ _ _ _ x s.requires.1)) ∙ on.if-not-agrees.false)
+    c.if-depth.false))

@@ -29,46 +29,46 @@ preview_machine_spec =
     (λ c. search rules)
     -- copy-cells-requires
     (λ c κs.
-    let arm : tie.After-last = search in
+    let arm : tie.In-Gives = search in
     let t : tie.After-test = search in
-    store_cells _ _ _ _ _ (tested _ _ _ _ _ (answers t.test.ensures arm.last.given.1)))
+    store_cells _ _ _ _ _ (tested _ _ _ _ _ (answers t.test.ensures arm.in-Gives.is)))
     -- array-borrow-prefix-copy
     (λ c.
-    let arm : tie.After-last = search in
+    let arm : tie.In-Gives = search in
     let t : tie.After-test = search in
-    memory_cells _ _ _ _ _ (tested _ _ _ _ _ (answers t.test.ensures arm.last.given.1)))
+    memory_cells _ _ _ _ _ (tested _ _ _ _ _ (answers t.test.ensures arm.in-Gives.is)))
     -- slice-aggregate-run-on-copy
     (λ c.
-    let arm : tie.After-last = search in
+    let arm : tie.In-Gives = search in
     let t : tie.After-test = search in
-    prefix _ (memory_cells _ _ _ _ _ (tested _ _ _ _ _ (answers t.test.ensures arm.last.given.1))))
+    prefix _ (memory_cells _ _ _ _ _ (tested _ _ _ _ _ (answers t.test.ensures arm.in-Gives.is))))
     (λ c. search rules)
     -- run-on-copy-requires
     (λ c κs.
-    let k : tie.After-copy-cells = search in
-    let arm : tie.After-last = search in
+    let k : tie.After-copy_cells = search in
+    let arm : tie.In-Gives = search in
     let t : tie.After-test = search in
     let a : tie.Start = search in
     let s = a.args in
-    let e = answers t.test.ensures arm.last.given.1 in (
-      ap (λ store. tests s.code.now s.memory.now s.depth s.table.now store) k.copy-cells.ensures ∙ e,
+    let e = answers t.test.ensures arm.in-Gives.is in (
+      ap (λ store. tests s.code.now s.memory.now s.depth s.table.now store) k.copy_cells.ensures ∙ e,
       prefix _ (memory_cells _ _ _ _ _ (tested _ _ _ _ _ e)),
     ))
     -- returns
     (λ c.
-    let r : tie.After-refusal = search in
+    let r : tie.In-Refused = search in
     let t : tie.After-test = search in (
-      c.decline.ensures ∙ preview_declined _ _ (refused_by _ r.refusal.given.1 t.test.ensures),
+      c.decline.ensures ∙ preview_declined _ _ (refused_by _ r.in-Refused.is t.test.ensures),
       (refl, refl),
     ))
     -- returns-2
     (λ c.
-    let run : tie.After-run-on-copy = search in
-    let k : tie.After-copy-cells = search in
+    let run : tie.After-run_on_copy-run = search in
+    let k : tie.After-copy_cells = search in
     let a : tie.Start = search in
     let s = a.args in (
-      run.run-on-copy.ensures
+      run.run_on_copy-run.ensures
           ∙ ap (λ store. preview_machine s.code.now s.memory.now s.depth s.table.now store s.budget)
-          k.copy-cells.ensures,
+          k.copy_cells.ensures,
       (refl, refl),
     )))

@@ -19,28 +19,28 @@ run_on_copy_spec =
     (λ c κs. search rules)
     -- run-tested-requires
     (λ c κs.
-    let k : tie.After-copy-cells = search in
+    let k : tie.After-copy_cells = search in
     let a : tie.Start = search in
-    (named_in a.args.table.now, in_copy _ _ _ _ _ (tested _ _ _ _ _ a.pre.0) k.copy-cells.ensures))
+    (named_in a.args.table.now, in_copy _ _ _ _ _ (tested _ _ _ _ _ a.requires.0) k.copy_cells.ensures))
     -- to-store-requires
     (λ c κs.
-    let run : tie.After-run-tested = search in
-    let k : tie.After-copy-cells = search in
+    let run : tie.After-run_tested-run = search in
+    let k : tie.After-copy_cells = search in
     let a : tie.Start = search in
-    room _ _ _ _ _ (tested _ _ _ _ _ a.pre.0)
-    (omega (arith, run.run-tested.kept.1.0, ap length k.copy-cells.ensures)))
+    room _ _ _ _ _ (tested _ _ _ _ _ a.requires.0)
+    (omega (arith, run.run_tested-run.auto.memory, ap length k.copy_cells.ensures)))
     (λ c. search rules)
     (λ c. search rules)
     -- returns
     (λ c.
-    let back : tie.After-to-store = search in
-    let run : tie.After-run-tested = search in
-    let k : tie.After-copy-cells = search in
+    let back : tie.After-to_store = search in
+    let run : tie.After-run_tested-run = search in
+    let k : tie.After-copy_cells = search in
     let a : tie.Start = search in
     let s = a.args in
     let n = named_in s.table.now in
-    let x = tested s.code.now s.memory.now s.depth s.table.now s.store.now a.pre.0 in
-    ap (λ store. (run_answer run.run-tested.result, store)) back.to-store.ensures
+    let x = tested s.code.now s.memory.now s.depth s.table.now s.store.now a.requires.0 in
+    ap (λ store. (run_answer run.run_tested-run.result, store)) back.to_store.ensures
     ∙ previews s.code.now s.memory.now s.depth s.table.now s.store.now x.passes s.budget
-    (run.run-tested.ensures n (in_copy _ _ _ _ _ x k.copy-cells.ensures)
-    ∙ ap (λ m. without_state (run_machine s.code.now m s.depth n s.budget)) k.copy-cells.ensures)))
+    (run.run_tested-run.ensures n (in_copy _ _ _ _ _ x k.copy_cells.ensures)
+    ∙ ap (λ m. without_state (run_machine s.code.now m s.depth n s.budget)) k.copy_cells.ensures)))

@@ -31,34 +31,34 @@ demanded text bytes l l' budget x e c read ready =
     (rows_fitted text bytes c read l ready budget).same_run
     ∙ sym (ap (λ (y : Answer Ran × Lent). (y.0, y.1.store)) e)
 
-returns : tie.Need-returns
+returns : tie.Need-returns-in-Refused
 unfolding Rows.fit
 returns c =
-    let no : tie.After-refusal = search in
+    let no : tie.In-Refused = search in
     let compiled : tie.After-compile = search in
-    let bytes : tie.After-shared-slice-known = search in
+    let bytes : tie.After-shared_slice_known-1 = search in
     let s : tie.Start = search in
     let a = s.args in
     let e = ends_there (λ (l : Compiled). buffers l.code l.table a.memory.now a.store.now) _
-    compiled.compile.ensures (ap sizes_answer no.refusal.given.1) in (
+    compiled.compile.ensures (ap sizes_answer no.in-Refused.is) in (
       e,
-      demanded a.text.now (λ i. omega (arith, bytes.shared-slice-known.given i))
+      demanded a.text.now (λ i. omega (arith, bytes.shared_slice_known-1.given i))
           (buffers a.code.now a.table.now a.memory.now a.store.now) _ a.budget _ e,
     )
 
-returns_2 : tie.Need-returns-2
+returns_2 : tie.Need-returns-in-Accepted
 unfolding Rows.fit
 returns_2 c =
-    let rest : tie.After-load-and-run = search in
-    let given : tie.After-sizes = search in
+    let rest : tie.After-load_and_run = search in
+    let given : tie.In-Accepted = search in
     let compiled : tie.After-compile = search in
-    let bytes : tie.After-shared-slice-known = search in
+    let bytes : tie.After-shared_slice_known-1 = search in
     let s : tie.Start = search in
     let a = s.args in
     let e = goes_on (λ (l : Compiled). buffers l.code l.table a.memory.now a.store.now) _
-    compiled.compile.ensures (ap sizes_answer given.sizes.given.1) rest.load-and-run.ensures in (
+    compiled.compile.ensures (ap sizes_answer given.in-Accepted.is) rest.load_and_run.ensures in (
       e,
-      demanded a.text.now (λ i. omega (arith, bytes.shared-slice-known.given i))
+      demanded a.text.now (λ i. omega (arith, bytes.shared_slice_known-1.given i))
           (buffers a.code.now a.table.now a.memory.now a.store.now) _ a.budget _ e,
     )
 
@@ -70,9 +70,9 @@ fit_spec =
     (λ c. search rules)
     (λ c. search rules)
     (λ c κs.
-    let given : tie.After-sizes = search in
+    let given : tie.In-Accepted = search in
     let compiled : tie.After-compile = search in
-    compile_room _ _ compiled.compile.ensures (ap sizes_answer given.sizes.given.1))
+    compile_room _ _ compiled.compile.ensures (ap sizes_answer given.in-Accepted.is))
     (λ c. search rules)
     (λ c. search rules)
     returns

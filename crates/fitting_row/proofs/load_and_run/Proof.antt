@@ -7,24 +7,24 @@ use Rattle.fitting.specs.Rows.{buffers}
 use Rattle.fitting_row.proofs.load_and_run.Statement.{statement}
 use Rattle.fitting_row.proofs.load_and_run.Tie as tie
 
-returns : tie.Need-returns
+returns : tie.Need-returns-in-Refused
 returns c =
-    let no : tie.After-refusal = search in
+    let no : tie.In-Refused = search in
     let loaded : tie.After-load = search in
     let s : tie.Start = search in
     let a = s.args in
     ends_there (λ m. buffers a.code.now a.table.now m a.store.now) _ loaded.load.ensures
-    (ap count_answer no.refusal.given.1)
+    (ap count_answer no.in-Refused.is)
 
-returns_2 : tie.Need-returns-2
+returns_2 : tie.Need-returns-in-Gives
 returns_2 c =
-    let rest : tie.After-run-and-read-back = search in
-    let given : tie.After-enum-told = search in
+    let rest : tie.After-run_and_read_back = search in
+    let given : tie.In-Gives = search in
     let loaded : tie.After-load = search in
     let s : tie.Start = search in
     let a = s.args in
     goes_on (λ m. buffers a.code.now a.table.now m a.store.now) _ loaded.load.ensures
-    (ap count_answer given.enum_told.given.1) rest.run-and-read-back.ensures
+    (ap count_answer given.in-Gives.is) rest.run_and_read_back.ensures
 
 pub load_and_run_spec : {M : Type 1} → statement M
 load_and_run_spec =

@@ -15,49 +15,49 @@ use Rattle.fitting_row.proofs.run_and_read_back.Statement.{statement}
 use Rattle.fitting_row.proofs.run_and_read_back.Tie as tie
 
 -- the run declined
-returns : tie.Need-returns
+returns : tie.Need-returns-in-Refused
 returns c =
-    let no : tie.After-refusal = search in
-    let run : tie.After-without-state = search in
-    let ran : tie.After-run-machine = search in
+    let no : tie.In-Refused = search in
+    let run : tie.After-without_state = search in
+    let ran : tie.After-run_machine = search in
     let s : tie.Start = search in
     let a = s.args in
     ends_there (λ m. buffers a.code.now a.table.now m a.store.now) _
     (without_state_of run.without_state.ensures ran.run_machine.ensures)
-    (ap run_answer no.refusal.given.1)
+    (ap run_answer no.in-Refused.is)
 
 -- it ended, and reading back declined
-returns_2 : tie.Need-returns-2
+returns_2 : tie.Need-returns-in-Refused-read_back
 returns_2 c =
-    let no : tie.After-refusal2 = search in
-    let read : tie.After-read-back = search in
-    let end : tie.After-end = search in
-    let run : tie.After-without-state = search in
-    let ran : tie.After-run-machine = search in
+    let no : tie.In-Refused-read_back = search in
+    let read : tie.After-read_back = search in
+    let end : tie.In-Ended = search in
+    let run : tie.After-without_state = search in
+    let ran : tie.After-run_machine = search in
     let s : tie.Start = search in
     let a = s.args in
     goes_on (λ m. buffers a.code.now a.table.now m a.store.now) _
     (without_state_of run.without_state.ensures ran.run_machine.ensures)
-    (ap run_answer end.end.given.1)
+    (ap run_answer end.in-Ended.is)
     (ends_there (buffers a.code.now a.table.now _) _ read.read_back.ensures
-    (ap count_answer no.refusal2.given.1))
+    (ap count_answer no.in-Refused-read_back.is))
 
 -- or gave
-returns_3 : tie.Need-returns-3
+returns_3 : tie.Need-returns-in-Gives
 unfolding give answered
 returns_3 c =
-    let given : tie.After-enum-told = search in
-    let read : tie.After-read-back = search in
-    let end : tie.After-end = search in
-    let run : tie.After-without-state = search in
-    let ran : tie.After-run-machine = search in
+    let given : tie.In-Gives = search in
+    let read : tie.After-read_back = search in
+    let end : tie.In-Ended = search in
+    let run : tie.After-without_state = search in
+    let ran : tie.After-run_machine = search in
     let s : tie.Start = search in
     let a = s.args in
     goes_on (λ m. buffers a.code.now a.table.now m a.store.now) _
     (without_state_of run.without_state.ensures ran.run_machine.ensures)
-    (ap run_answer end.end.given.1)
+    (ap run_answer end.in-Ended.is)
     (goes_on (buffers a.code.now a.table.now _) _ read.read_back.ensures
-    (ap count_answer given.enum_told.given.1) refl)
+    (ap count_answer given.in-Gives.is) refl)
 
 pub run_and_read_back_spec : {M : Type 1} → statement M
 run_and_read_back_spec =
@@ -66,7 +66,7 @@ run_and_read_back_spec =
     (λ c. search rules)
     (λ c.
     let s : tie.Start = search in
-    omega (arith, length-take (5 * s.args.sizes.records) s.args.code.now, s.pre))
+    omega (arith, length-take (5 * s.args.sizes.records) s.args.code.now, s.requires))
     (λ c κs. search rules)
     (λ c κs. search rules)
     (λ c. search rules)

@@ -23,13 +23,13 @@ short s =
 -- The parts in a row
 all_lines : tie.Need-returns
 all_lines c n P Q codes =
-    let p4 : tie.After-put-value-lines = search in
-    let p3 : tie.After-put-run-line = search in
-    let p2 : tie.After-put-record-lines = search in
-    let p1 : tie.After-put-first-line = search in
-    puts_both p1.put-first-line.ensures
-    (puts_both (p2.put-record-lines.ensures n P Q codes)
-    (puts_both p3.put-run-line.ensures p4.put-value-lines.ensures))
+    let p4 : tie.After-put_value_lines = search in
+    let p3 : tie.After-put_run_line-next = search in
+    let p2 : tie.After-put_record_lines-next = search in
+    let p1 : tie.After-put_first_line-next = search in
+    puts_both p1.put_first_line-next.ensures
+    (puts_both (p2.put_record_lines-next.ensures n P Q codes)
+    (puts_both p3.put_run_line-next.ensures p4.put_value_lines.ensures))
 
 pub put_lines_spec : {M : Type 1} → statement M
 put_lines_spec =
@@ -38,20 +38,20 @@ put_lines_spec =
     (λ c κs. search rules)
     (λ c κs.
     let s : tie.Start = search in
-    let p = s.pre in
+    let p = s.requires in
     ((omega (arith, first_line_length s.args.sizes), omega arith), (omega arith, omega arith)))
     (λ c κs.
-    let r : tie.After-put-record-lines = search in
+    let r : tie.After-put_record_lines-next = search in
     let s : tie.Start = search in
-    let some = s.pre.1.1.1 in
-    let put = r.put-record-lines.ensures some.n some.P some.Q some.codes in
+    let some = s.requires.1.1.1 in
+    let put = r.put_record_lines-next.ensures some.n some.P some.Q some.codes in
     omega (arith, first_line_length s.args.sizes, short s))
     (λ c κs.
-    let r : tie.After-put-record-lines = search in
+    let r : tie.After-put_record_lines-next = search in
     let s : tie.Start = search in
-    let p = s.pre in
+    let p = s.requires in
     let some = p.1.1.1 in
-    let put = r.put-record-lines.ensures some.n some.P some.Q some.codes in
+    let put = r.put_record_lines-next.ensures some.n some.P some.Q some.codes in
     let run = run_line_length (end_of s.args.end) s.args.count in
     (omega (arith, first_line_length s.args.sizes, short s), (omega arith, omega arith)))
     (λ c. search rules)

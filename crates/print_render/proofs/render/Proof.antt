@@ -8,13 +8,13 @@ use Rattle.print_render.proofs.Shown.{refused_shown}
 use Rattle.print_render.proofs.render.Statement.{statement}
 use Rattle.print_render.proofs.render.Tie as tie
 
-returns : tie.Need-returns
+returns : tie.Need-returns-in-Refused
 returns c =
-    let no : tie.After-refusal = search in
+    let no : tie.In-Refused = search in
     let r : tie.After-read = search in
     let s : tie.Start = search in
-    let p = puts_is c.put-refusal.ensures
-    (refused_shown s.args.text.now _ _ (sym (ap sizes_answer no.refusal.given.1) ∙ r.read.ensures)) refl in
+    let p = puts_is c.put_refusal.ensures
+    (refused_shown s.args.text.now _ _ (sym (ap sizes_answer no.in-Refused.is) ∙ r.read.ensures)) refl in
     (p, puts_within p)
 
 pub render_spec : {M : Type 1} → statement M
@@ -26,8 +26,8 @@ render_spec =
     (λ c κs. search rules)
     (λ c. search rules)
     (λ c κs.
-    let given : tie.After-sizes = search in
+    let given : tie.In-Accepted = search in
     let r : tie.After-read = search in
-    (omega arith, sym (ap sizes_answer given.sizes.given.1) ∙ r.read.ensures))
+    (omega arith, sym (ap sizes_answer given.in-Accepted.is) ∙ r.read.ensures))
     returns
-    (λ c. (c.render-accepted.ensures, puts_within c.render-accepted.ensures)))
+    (λ c. (c.render_accepted.ensures, puts_within c.render_accepted.ensures)))
