@@ -80,9 +80,9 @@ fn finish(
 // Runs assembly from a fresh machine, over a store of 64 cells and a stack of D, its length.
 // Refuses 9, 8, 10, 11, and then leaves both untouched.
 pub fn run_assembly(code: &[u8], store: &mut [i32], stack: &mut [i32], budget: u32) -> Run
-    ensures { (run_answer result, record { stack = stack.exit.now; store = store.new })
+    ensures { (run_answer result, record { stack = stack.new; store = store.new })
         ≡ run_assembly code.now
-        (record { stack = stack.entry.now; store = store.old }) budget }
+        (record { stack = stack.old; store = store.old }) budget }
 {
     match test(code, store, stack) {
         Count::Refused(refusal) => Run::Refused(refusal),

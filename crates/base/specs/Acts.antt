@@ -1,5 +1,4 @@
 -- Acts one after the other: the form in which reading, the source rules and the machine's records are written.
-use Rattle.std.specs.Prelude.{Bool, true, false}
 
 -- An act on a state gives a value and the next state, or ends with what that end hands on
 pub data Outcome (State Ended A : Type 0) : Type 0 where
@@ -25,8 +24,3 @@ abbrev pub ◌>>◌ : {S E A B : Type 0} → Act S E A → Act S E B → Act S E
 -- The value a, and nothing done
 unfoldable pub give : {S E A : Type 0} → A → Act S E A
 give a s = ok a s
-
-infixr 5 if◌then◌else◌
-abbrev pub if◌then◌else◌ : {A : Type 0} → Bool → A → A → A
-if true then x else y = x
-if false then x else y = y

@@ -11,7 +11,7 @@ use mathlib.Core.Option.{Option, none, some, some-injective}
 use lib.Dec.{eqb, eqb-suc-zero}
 use lib.ListN.{length, get_or, get_elem?, get_or-eq_default}
 use borrow.Author.Tests.{eqb-true, eqb-false, eq-eqb}
-use Rattle.base.specs.Acts.{if◌then◌else◌}
+use Rattle.std.specs.Prelude.{if◌then◌else◌}
 use Rattle.record.specs.Records.{Record, LOADI, LOAD, ADD, STORE, JMP, JMPLESS, JMPGE, AssemblyCode, named, rename}
 use Rattle.record.specs.Bytes.{option_map}
 use Rattle.record.specs.declared.Variable.{Variable}

@@ -6,7 +6,7 @@ use mathlib.Core.List.{[], ◌∷◌, ◌++◌}
 use mathlib.Core.Option.{some}
 use lib.Dec.{eqb}
 use lib.IntN.{ℤ}
-use Rattle.base.specs.Acts.{if◌then◌else◌}
+use Rattle.std.specs.Prelude.{if◌then◌else◌}
 use Rattle.text.specs.Syntax.{Expression, Constant, Plus, Condition, Bc, Not, And, Less, Command, SKIP, ◌:=◌, ◌⨾◌}
 use Rattle.text.specs.Syntax.{IF◌THEN◌ELSE◌, WHILE◌DO◌}
 use Rattle.text.specs.Sizes.{expression_names, condition_names, names}

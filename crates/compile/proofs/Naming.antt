@@ -13,7 +13,7 @@ use lib.Signed.{mag}
 use mir.Syntax.{w32}
 use mir.Val.{SFits}
 use mir.Facts.{sfits_widen}
-use Rattle.base.specs.Acts.{if◌then◌else◌}
+use Rattle.std.specs.Prelude.{if◌then◌else◌}
 use Rattle.text.specs.Syntax.{four_bytes, one_byte}
 use Rattle.text.specs.Syntax.{Expression, Constant, Plus, Condition, Bc, Not, And, Less, Command, SKIP, ◌:=◌, ◌⨾◌}
 use Rattle.text.specs.Syntax.{IF◌THEN◌ELSE◌, WHILE◌DO◌}

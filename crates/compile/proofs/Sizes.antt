@@ -6,7 +6,7 @@ use mathlib.Core.Bool.{Bool, true, false, not, beq}
 use mathlib.Core.List.{[], ◌∷◌}
 use lib.IntN.{ℤ}
 use lib.ListN.{length, length-append}
-use Rattle.base.specs.Acts.{if◌then◌else◌}
+use Rattle.std.specs.Prelude.{if◌then◌else◌}
 use Rattle.text.specs.Sizes.{expression_records, condition_records, records}
 use Rattle.text.specs.Syntax.{Expression, Constant, Variable, Plus, Condition, Bc, Not, And, Less, SKIP, ◌:=◌, ◌⨾◌}
 use Rattle.text.specs.Syntax.{IF◌THEN◌ELSE◌, WHILE◌DO◌}

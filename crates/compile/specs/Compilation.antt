@@ -1,7 +1,6 @@
 -- Compilation (document 01, "Records"; document 001, acomp, bcomp, ccomp).
-use Rattle.std.specs.Prelude.{suc, ◌+◌, Bool, false, not, [], ◌∷◌, ◌++◌, ℤ, pos, negsuc, ◌+ℤ◌, length}
+use Rattle.std.specs.Prelude.{suc, ◌+◌, Bool, false, not, [], ◌∷◌, ◌++◌, ℤ, pos, negsuc, ◌+ℤ◌, length, if◌then◌else◌}
 use Rattle.std.specs.Bool.{beq}
-use Rattle.base.specs.Acts.{if◌then◌else◌}
 use Rattle.text.specs.Syntax.{Expression, Constant, Variable, Plus, Condition, Bc, Not, And, Less, Command, SKIP}
 use Rattle.text.specs.Syntax.{◌:=◌, ◌⨾◌, IF◌THEN◌ELSE◌, WHILE◌DO◌}
 use Rattle.record.specs.Records.{AssemblyCode, LOADI, LOAD, ADD, STORE, JMP, JMPLESS, JMPGE, variable}

@@ -34,7 +34,7 @@ fn back_over(n: usize) -> i32
 
 // An assignment's records: the expression's, and STORE.
 fn write_assignment(text: &[u8], at: usize, nest: usize, out: &mut [u8]) -> PartSize
-    requires at_value { get_or text.now at 0 ≡ 0x01 }
+    requires first_byte { get_or text.now at 0 ≡ 0x01 }
     requires writable { Writable ccomp 0 (command text.now nest at) out.old }
     ensures { Writes ccomp (command text.now nest at) out.old out.new result }
 {
@@ -56,11 +56,11 @@ fn write_sequence(
     sizes: &mut [u32; SLOTS],
     out: &mut [u8],
 ) -> PartSize
-    requires at_value { get_or text.now at 0 ≡ 0x02 }
+    requires first_byte { get_or text.now at 0 ≡ 0x02 }
     requires writable { Writable ccomp 0 (command text.now nest at) out.old }
     requires condition_sizes { ConditionSizes text.now sizes.old }
     ensures writes { Writes ccomp (command text.now nest at) out.old out.new result }
-    ensures condition_sizes_2 { ConditionSizes text.now sizes.new }
+    ensures condition_sizes_after { ConditionSizes text.now sizes.new }
 {
     let first = write_command(text, at + 1, nest - 1, sizes, out);
     let middle = first.next;
@@ -83,11 +83,11 @@ fn write_if(
     sizes: &mut [u32; SLOTS],
     out: &mut [u8],
 ) -> PartSize
-    requires at_value { get_or text.now at 0 ≡ 0x03 }
+    requires first_byte { get_or text.now at 0 ≡ 0x03 }
     requires writable { Writable ccomp 0 (command text.now nest at) out.old }
     requires condition_sizes { ConditionSizes text.now sizes.old }
     ensures writes { Writes ccomp (command text.now nest at) out.old out.new result }
-    ensures condition_sizes_2 { ConditionSizes text.now sizes.new }
+    ensures condition_sizes_after { ConditionSizes text.now sizes.new }
 {
     let test = condition_size(text, at + 1, nest - 1, false, sizes);
     let then = test.next;
@@ -118,11 +118,11 @@ fn write_while(
     sizes: &mut [u32; SLOTS],
     out: &mut [u8],
 ) -> PartSize
-    requires at_value { get_or text.now at 0 ≡ 0x04 }
+    requires first_byte { get_or text.now at 0 ≡ 0x04 }
     requires writable { Writable ccomp 0 (command text.now nest at) out.old }
     requires condition_sizes { ConditionSizes text.now sizes.old }
     ensures writes { Writes ccomp (command text.now nest at) out.old out.new result }
-    ensures condition_sizes_2 { ConditionSizes text.now sizes.new }
+    ensures condition_sizes_after { ConditionSizes text.now sizes.new }
 {
     let test = condition_size(text, at + 1, nest - 1, false, sizes);
     let then = test.next;
@@ -151,7 +151,7 @@ fn write_command(
     requires writable { Writable ccomp 0 (command text.now nest at) out.old }
     requires condition_sizes { ConditionSizes text.now sizes.old }
     ensures writes { Writes ccomp (command text.now nest at) out.old out.new result }
-    ensures condition_sizes_2 { ConditionSizes text.now sizes.new }
+    ensures condition_sizes_after { ConditionSizes text.now sizes.new }
 {
     let byte = text[at];
     if byte == SKIP {

@@ -16,7 +16,7 @@ use lib.Seq.{drop-cons}
 use mir.Syntax.{w32}
 use mir.Val.{SFits}
 use borrow.Author.Tests.{eqb-true, leb-true}
-use Rattle.base.specs.Acts.{if◌then◌else◌}
+use Rattle.std.specs.Prelude.{if◌then◌else◌}
 use Rattle.word.specs.Numbers.{number_at, bytes_of}
 use Rattle.word.proofs.Claims.{bytes_of_number, numbers_fit}
 use Rattle.record.specs.Records.{Record, LOAD, ADD, STORE}

@@ -21,9 +21,9 @@ const ADDRESSES: usize = base::VARIABLES + 1;
 // A table's inverse over zeros: the variable of each address, by the address. It goes from the last variable down, so
 // that the first one with an address is written last.
 fn invert(table: &[u8], names: &mut [u8])
-    requires table_len_bound { length table.now ≤ 64 }
-    requires by_index { (v : ℕ) → get_or table.now v 0 < length names.old }
-    requires names_value { names.old ≡ replicate (length names.old) 0 }
+    requires table_len { length table.now ≤ 64 }
+    requires entries_inside { (v : ℕ) → get_or table.now v 0 < length names.old }
+    requires names_zeros { names.old ≡ replicate (length names.old) 0 }
     ensures { names.new ≡ Steps.inverse table.now 0 (length names.old) }
 {
     let mut v = table.len();

@@ -3,8 +3,7 @@
 // And has, and looks up how many the left side has (`sizes`).
 #![tactic(auto)]
 
-ghost use Rattle.std.specs.Prelude.{◌≡◌, ◌+◌, ◌<◌, get_or};
-ghost use Rattle.base.specs.Acts.{if◌then◌else◌};
+ghost use Rattle.std.specs.Prelude.{◌≡◌, ◌+◌, ◌<◌, get_or, if◌then◌else◌};
 ghost use Rattle.text.specs.Reading.{expression, condition};
 ghost use Rattle.text.specs.Sizes.{condition_records};
 ghost use Rattle.compile.specs.Compilation.{acomp};
@@ -20,7 +19,7 @@ use text_shape::{AND, BC, PLUS, VARIABLE, constant_at};
 
 // A constant's or a variable's record. (The nesting left is for the contract alone.)
 fn write_leaf(text: &[u8], at: usize, nest: usize, out: &mut [u8]) -> PartSize
-    requires fact { get_or text.now at 0 ≡ 0x12 → ⊥ }
+    requires no_plus { get_or text.now at 0 ≡ 0x12 → ⊥ }
     requires writable { Writable acomp 0 (expression text.now nest at) out.old }
     ensures { Writes acomp (expression text.now nest at) out.old out.new result }
 {
@@ -92,7 +91,7 @@ fn write_less(
     distance: usize,
     out: &mut [u8],
 ) -> PartSize
-    requires at_value { get_or text.now at 0 ≡ 0x23 }
+    requires first_byte { get_or text.now at 0 ≡ 0x23 }
     requires writable { Writable (jumping flag distance) distance (condition text.now nest at) out.old }
     ensures { Writes (jumping flag distance) (condition text.now nest at) out.old
         out.new result }
@@ -131,13 +130,13 @@ fn write_and(
     sizes: &mut [u32; SLOTS],
     out: &mut [u8],
 ) -> PartSize
-    requires at_value { get_or text.now at 0 ≡ 0x22 }
+    requires first_byte { get_or text.now at 0 ≡ 0x22 }
     requires writable { Writable (jumping flag distance) distance (condition text.now nest at) out.old }
     requires sized { Sized (λ b. condition_records b flag) (condition text.now nest at) whole }
     requires condition_sizes { ConditionSizes text.now sizes.old }
     ensures writes { Writes (jumping flag distance) (condition text.now nest at) out.old
         out.new result }
-    ensures condition_sizes_2 { ConditionSizes text.now sizes.new }
+    ensures condition_sizes_after { ConditionSizes text.now sizes.new }
 {
     let left = known_size(text, at + 1, nest - 1, sizes);
     let right = whole - left;
@@ -179,7 +178,7 @@ pub fn write_condition(
     requires condition_sizes { ConditionSizes text.now sizes.old }
     ensures writes { Writes (jumping flag distance) (condition text.now nest at) out.old
         out.new result }
-    ensures condition_sizes_2 { ConditionSizes text.now sizes.new }
+    ensures condition_sizes_after { ConditionSizes text.now sizes.new }
 {
     let bare = past_nots(text, at, nest, flag);
     let here = bare.at;

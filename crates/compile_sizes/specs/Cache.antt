@@ -1,8 +1,7 @@
 -- A cache of sizes, in 64 slots: one more than the records that a condition has under false, by the condition's
 -- position. A slot has 0, or position · 65536 + size; a position's slot is its remainder by 64, so a later one may take
 -- an earlier one's. Whatever stands in it is right.
-use Rattle.std.specs.Prelude.{false, ◌&&◌, List, ℕ, ◌+◌, ◌*◌, ◌/◌, ◌%◌, eqb, ltb, get_or, set}
-use Rattle.base.specs.Acts.{if◌then◌else◌}
+use Rattle.std.specs.Prelude.{false, ◌&&◌, List, ℕ, ◌+◌, ◌*◌, ◌/◌, ◌%◌, eqb, ltb, get_or, set, if◌then◌else◌}
 use Rattle.text.specs.Reading.{condition}
 use Rattle.text.specs.Sizes.{condition_records}
 use Rattle.text_shape.specs.Caches.{Right}

@@ -3,9 +3,9 @@
 // records that it has under false.
 #![tactic(auto)]
 
-ghost use Rattle.std.specs.Prelude.{ℕ, ◌+◌, ◌≤◌, ◌≡◌, false, length, get_or};
+ghost use Rattle.std.specs.Prelude.{ℕ, ◌+◌, ◌≤◌, ◌≡◌, false, length, get_or, if◌then◌else◌};
 ghost use Rattle.std.specs.Bool.{beq};
-ghost use Rattle.base.specs.Acts.{ok, if◌then◌else◌};
+ghost use Rattle.base.specs.Acts.{ok};
 ghost use Rattle.text.specs.Syntax.{Condition};
 ghost use Rattle.text.specs.Reading.{plus, expression, condition};
 ghost use Rattle.text.specs.Sizes.{expression_records, condition_records};
@@ -77,8 +77,8 @@ fn two_sizes(text: &[u8], at: usize, nest: usize) -> PartSize
 // A constant's one record, and where the constant ends.
 fn constant_size(text: &[u8], at: usize) -> PartSize
     requires { at + (1 + constant_width (get_or text.now at 0)) ≤ length text.now }
-    ensures next_value { result.next ≡ at + (1 + constant_width (get_or text.now at 0)) }
-    ensures records_value { result.records ≡ 1 }
+    ensures next_after { result.next ≡ at + (1 + constant_width (get_or text.now at 0)) }
+    ensures one_record { result.records ≡ 1 }
 {
     PartSize {
         next: at + 1 + constant_width(text[at]),
@@ -135,7 +135,7 @@ pub struct Bare {
 pub fn past_nots(text: &[u8], start: usize, deepest: usize, under: bool) -> Bare
     requires { (b : Condition) × ((n : ℕ) × (condition text.now deepest start ≡ ok b n)) }
     ensures behind { Behind text.now deepest under (condition text.now deepest start) result }
-    ensures fact { get_or text.now result.at 0 ≡ 0x21 → ⊥ }
+    ensures no_not { get_or text.now result.at 0 ≡ 0x21 → ⊥ }
 {
     let mut at = start;
     let mut nest = deepest;
@@ -152,11 +152,11 @@ pub fn past_nots(text: &[u8], start: usize, deepest: usize, under: bool) -> Bare
 // side's are remembered.
 #[cycle(both_size_condition_size)]
 fn both_size(text: &[u8], at: usize, nest: usize, flag: bool, sizes: &mut [u32; SLOTS]) -> PartSize
-    requires at_value { get_or text.now at 0 ≡ 0x22 }
+    requires first_byte { get_or text.now at 0 ≡ 0x22 }
     requires countable { Countable (λ b. condition_records b flag) (condition text.now nest at) }
     requires condition_sizes { ConditionSizes text.now sizes.old }
     ensures counts { Counts (λ b. condition_records b flag) (condition text.now nest at) result }
-    ensures condition_sizes_2 { ConditionSizes text.now sizes.new }
+    ensures condition_sizes_after { ConditionSizes text.now sizes.new }
 {
     let first = condition_size(text, at + 1, nest - 1, false, sizes);
     let middle = first.next;
@@ -170,7 +170,7 @@ fn both_size(text: &[u8], at: usize, nest: usize, flag: bool, sizes: &mut [u32; 
 
 // How many records a Less has, under either flag: its two sides', and one more.
 fn less_size(text: &[u8], at: usize, nest: usize, flag: bool) -> PartSize
-    requires at_value { get_or text.now at 0 ≡ 0x23 }
+    requires first_byte { get_or text.now at 0 ≡ 0x23 }
     requires countable { Countable (λ b. condition_records b flag) (condition text.now nest at) }
     ensures { Counts (λ b. condition_records b flag) (condition text.now nest at) result }
 {
@@ -189,7 +189,7 @@ pub fn condition_size(
     requires countable { Countable (λ b. condition_records b flag) (condition text.now nest at) }
     requires condition_sizes { ConditionSizes text.now sizes.old }
     ensures counts { Counts (λ b. condition_records b flag) (condition text.now nest at) result }
-    ensures condition_sizes_2 { ConditionSizes text.now sizes.new }
+    ensures condition_sizes_after { ConditionSizes text.now sizes.new }
 {
     let bare = past_nots(text, at, nest, flag);
     let here = bare.at;
@@ -211,7 +211,7 @@ pub fn known_size(text: &[u8], at: usize, nest: usize, sizes: &mut [u32; SLOTS])
     requires countable { Countable (λ b. condition_records b false) (condition text.now nest at) }
     requires condition_sizes { ConditionSizes text.now sizes.old }
     ensures sized { Sized (λ b. condition_records b false) (condition text.now nest at) result }
-    ensures condition_sizes_2 { ConditionSizes text.now sizes.new }
+    ensures condition_sizes_after { ConditionSizes text.now sizes.new }
 {
     let known = look_up(sizes, at);
     if known != 0 {

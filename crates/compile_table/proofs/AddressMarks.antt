@@ -11,7 +11,7 @@ use lib.Dec.{eqb, ltb, lit<, eqb-zero-suc, eqb-suc-suc}
 use lib.ListN.{length}
 use lib.Pow.{pow-lt, pow_mono, ones_lt}
 use borrow.Author.Tests.{ltb-true, ltb-false, lt-ltb, le-ltb, ne_eqb}
-use Rattle.base.specs.Acts.{if◌then◌else◌}
+use Rattle.std.specs.Prelude.{if◌then◌else◌}
 use Rattle.compile.specs.Table.{times, named_in, is_table}
 use Rattle.compile.proofs.Passing.{stands_once, absent, stand_passes}
 use Rattle.compile_table.specs.AddressMarks.{address_bit, address_marks, bit, lowest, WordTest}

@@ -12,7 +12,7 @@ use lib.Dec.{eqb, leb}
 use lib.IntN.{ℤ}
 use lib.ListN.{length, get_or, get_elem?, drop, drop_of_length-le}
 use borrow.Author.Tests.{eqb-true, eq-eqb, ne_eqb, leb-true}
-use Rattle.base.specs.Acts.{if◌then◌else◌}
+use Rattle.std.specs.Prelude.{if◌then◌else◌}
 use Rattle.base.proofs.Settled.{both}
 use Rattle.word.specs.Numbers.{number_at}
 use Rattle.record.specs.Records.{Record, LOADI, JMP, JMPLESS, JMPGE, MachineCode, named, address}

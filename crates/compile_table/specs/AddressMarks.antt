@@ -1,7 +1,7 @@
 -- The address marks of a table, kept as bits of one word (document 02, W4).
-use Rattle.std.specs.Prelude.{◌≡◌, Bool, true, List, [], ◌∷◌, ◌↔◌, ℕ, zero, suc, ◌-◌, ◌/◌, ◌%◌, ◌^◌, ◌≤◌, ◌<◌, eqb, ltb, length}
+use Rattle.std.specs.Prelude.{◌≡◌, Bool, true, List, [], ◌∷◌, ◌↔◌, ℕ, zero, suc, ◌-◌, ◌/◌, ◌%◌, ◌^◌, ◌≤◌, ◌<◌, eqb}
+use Rattle.std.specs.Prelude.{ltb, length, if◌then◌else◌}
 use Rattle.std.specs.Int.Bits.{bit_or}
-use Rattle.base.specs.Acts.{if◌then◌else◌}
 use Rattle.compile.specs.Table.{times, named_in, is_table}
 
 -- "bit a − 1 for address a (an entry above 64 sets none)": a word with this bit alone

@@ -1,6 +1,5 @@
 -- The addresses in machine code, by its bytes (document 02, W6).
-use Rattle.std.specs.Prelude.{◌≡◌, ◌||◌, List, ℕ, ◌+◌, ◌*◌, ◌≤◌, eqb, length, get_or}
-use Rattle.base.specs.Acts.{if◌then◌else◌}
+use Rattle.std.specs.Prelude.{◌≡◌, ◌||◌, List, ℕ, ◌+◌, ◌*◌, ◌≤◌, eqb, length, get_or, if◌then◌else◌}
 use Rattle.base.specs.Answers.{gives}
 use Rattle.record.specs.Records.{MachineCode, address}
 use Rattle.record.specs.Bytes.{machine_kind, records_from}

@@ -1,6 +1,5 @@
 -- What the test of a table finds (document 01, refusal 12).
-use Rattle.std.specs.Prelude.{List, ℕ}
-use Rattle.base.specs.Acts.{if◌then◌else◌}
+use Rattle.std.specs.Prelude.{List, ℕ, if◌then◌else◌}
 use Rattle.compile.specs.Table.{named_in, is_table}
 use Rattle.compile_table.specs.declared.Named.{Named}
 use Rattle.compile_table.specs.declared.Named.TheVariants.{Cells, NoTable}

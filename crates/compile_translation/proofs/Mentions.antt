@@ -10,7 +10,7 @@ use lib.IntN.{pos}
 use lib.ListN.{length, get_or, drop}
 use lib.Seq.{get_or-drop}
 use borrow.Author.Tests.{leb-true}
-use Rattle.base.specs.Acts.{if◌then◌else◌}
+use Rattle.std.specs.Prelude.{if◌then◌else◌}
 use Rattle.word.specs.Numbers.{bytes_of}
 use Rattle.record.specs.Records.{Record, LOADI, LOAD, ADD, STORE, JMP, JMPLESS, JMPGE, AssemblyCode, named, variable}
 use Rattle.record.specs.Bytes.{assembly_kind, first_byte, operand, record_bytes, code_bytes}

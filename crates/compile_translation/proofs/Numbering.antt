@@ -12,7 +12,7 @@ use lib.Dec.{eqb}
 use lib.ListN.{length, get_or, set, drop, replicate, length-set, drop_of_length-le}
 use lib.Seq.{ext_get_or, get_or-set_same, get_or-set_other, drop-cons}
 use borrow.Author.Tests.{eq-eqb, ne_eqb, eqb-true}
-use Rattle.base.specs.Acts.{if◌then◌else◌}
+use Rattle.std.specs.Prelude.{if◌then◌else◌}
 use Rattle.record.specs.Records.{Record, ADD, AssemblyCode, named}
 use Rattle.record.specs.declared.Variable.{Variable}
 use Rattle.compile.specs.Table.{member, mentions, vars, addr_of, entries, table, times}
@@ -48,7 +48,8 @@ module _ (r : Record Variable) (Q : AssemblyCode) where
           rw q
           (here x h
           ∙ simp (eq-eqb x x refl)
-          (sym (get_or-set_same (table Q) x (length (vars Q) + 1) 0 (omega (arith, long Q)) ∙ add-one (length (vars Q)))))
+          (sym (get_or-set_same (table Q) x (length (vars Q) + 1) 0 (omega (arith, long Q))
+          ∙ add-one (length (vars Q)))))
       at v l (no q) =
           here v l
           ∙ simp (ne_eqb x v (λ e. q (sym e)))

@@ -1,6 +1,5 @@
 -- What the steps of translating do, on bytes and on a table.
-use Rattle.std.specs.Prelude.{ℕ, ◌+◌, ◌-◌, ◌*◌, Bool, ◌||◌, List, eqb, get_or, set}
-use Rattle.base.specs.Acts.{if◌then◌else◌}
+use Rattle.std.specs.Prelude.{ℕ, ◌+◌, ◌-◌, ◌*◌, Bool, ◌||◌, List, eqb, get_or, set, if◌then◌else◌}
 use Rattle.record.specs.Records.{variable}
 use Rattle.compile_translation.specs.declared.Mention.{Mention}
 use Rattle.compile_translation.specs.declared.Mention.TheVariants.{Of, Nothing}

@@ -10,7 +10,8 @@ use mathlib.Core.Option.{none, some}
 use lib.IntN.{ℤ, pos, negsuc, ◌+ℤ◌}
 use lib.ListN.{length, length-append, get_elem?}
 use lib.Signed.{lt_z}
-use Rattle.base.specs.Acts.{Outcome, ok, ended, then', ◌>>=◌, ◌>>◌, give, if◌then◌else◌}
+use Rattle.std.specs.Prelude.{if◌then◌else◌}
+use Rattle.base.specs.Acts.{Outcome, ok, ended, then', ◌>>=◌, ◌>>◌, give}
 use Rattle.base.specs.Ends.{Fault, End, fault, Result, result}
 use Rattle.word.specs.Sums.{Sum, fits, out, SumRule}
 use Rattle.text.specs.Sizes.{expression_depth, condition_depth, depth}

@@ -60,8 +60,8 @@ fn load_run_read(
     sizes: Sizes,
     budget: u32,
 ) -> Run
-    requires depth_value { paired_tests code.now table.now store.old sizes.depth ≡ gives sizes }
-    requires memory_value { memory.old ≡ replicate (sizes.depth + 1 + sizes.cells) (pos 0) }
+    requires tested { paired_tests code.now table.now store.old sizes.depth ≡ gives sizes }
+    requires memory_zeros { memory.old ≡ replicate (sizes.depth + 1 + sizes.cells) (pos 0) }
     ensures { (run_answer result, store.new)
         ≡ run_paired code.now table.now store.old sizes.depth budget }
 {
@@ -79,7 +79,7 @@ fn load_run_read(
 pub fn run_paired(code: &[u8], table: &[u8], store: &mut [i32], depth: u64, budget: u32) -> Run
     ensures store_after { (run_answer result, store.new)
         ≡ run_paired code.now table.now store.old depth budget }
-    ensures by_index { (text : List ℕ) → ByCompiler text code.now table.now depth
+    ensures of_compiled { (text : List ℕ) → ByCompiler text code.now table.now depth
         → run_source text store.old budget ≡ (run_answer result, store.new) }
 {
     match test(code, table, store, depth) {

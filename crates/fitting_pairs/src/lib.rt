@@ -19,9 +19,9 @@ use text::Reading;
 // Runs the first records of the code.
 fn run_records(code: &[u8], count: usize, store: &mut [i32], stack: &mut [i32], budget: u32) -> Run
     requires { 5 * count ≤ length code.now }
-    ensures { (run_answer result, record { stack = stack.exit.now; store = store.new })
+    ensures { (run_answer result, record { stack = stack.new; store = store.new })
         ≡ run_assembly (take (5 * count) code.now)
-        (record { stack = stack.entry.now; store = store.old }) budget }
+        (record { stack = stack.old; store = store.old }) budget }
 {
     let size = RECORD_BYTES * count;
     assembly_run::run_assembly(&code[..size], store, stack, budget)
@@ -36,14 +36,14 @@ pub fn assemble_and_run(
     stack: &mut [i32],
     budget: u32,
 ) -> Run
-    ensures store_after { (
+    ensures row { (
       run_answer result,
-      assembly_buffers code.new (record { stack = stack.exit.now; store = store.new }),
+      assembly_buffers code.new (record { stack = stack.new; store = store.new }),
     )
         ≡ assemble_and_run text.now
-        (assembly_buffers code.old (record { stack = stack.entry.now; store = store.old }))
+        (assembly_buffers code.old (record { stack = stack.old; store = store.old }))
         budget }
-    ensures budget_value { (c : Command) → read_text text.now ≡ gives c
+    ensures of_accepted { (c : Command) → read_text text.now ≡ gives c
         → 5 * records c ≤ length code.old
         → length stack.old ≡ depth c → length store.old ≡ 64
         → run_source text.now store.old budget ≡ (run_answer result, store.new) }
@@ -67,10 +67,10 @@ fn go_back_from(code: &[u8], count: usize, table: &[u8], out: &mut [u8]) -> Coun
 // Compiles a text and goes back from the records and the table written. For an accepted text and buffers with room, the
 // answer is the record count, and the output is what assemble leaves in it.
 pub fn compile_and_go_back(text: &[u8], code: &mut [u8], table: &mut [u8], out: &mut [u8]) -> Count
-    ensures out_after { (count_answer result, back_buffers code.new table.new out.new)
+    ensures row { (count_answer result, back_buffers code.new table.new out.new)
         ≡ compile_and_go_back text.now
         (back_buffers code.old table.old out.old) }
-    ensures fact { (c : Command) → read_text text.now ≡ gives c
+    ensures of_accepted { (c : Command) → read_text text.now ≡ gives c
         → length table.old ≡ 64 → 5 * records c ≤ length code.old
         → 5 * records c ≤ length out.old
         → ◌≡◌ {A = Answer ℕ × List ℕ} (count_answer result, out.new)

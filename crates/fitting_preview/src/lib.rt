@@ -35,7 +35,7 @@ fn run_on_copy(
     store: &mut [i32],
     budget: u32,
 ) -> Run
-    requires length_value { and_then (preview_tests code.now memory.now depth table.now store.old) (λ P. gives (length P))
+    requires tested { and_then (preview_tests code.now memory.now depth table.now store.old) (λ P. gives (length P))
         ≡ gives last }
     requires memory_len { length memory.now ≡ length copy.old }
     ensures { (run_answer result, store.new)
@@ -58,10 +58,10 @@ pub fn preview_machine(
     store: &[i32],
     budget: u32,
 ) -> Preview
-    ensures result_value { preview_answer result
+    ensures answer { preview_answer result
         ≡ preview_machine code.now memory.now depth
         table.now store.now budget }
-    ensures memory_value { (memory.now ≡ memory.now) × (store.now ≡ store.now) }
+    ensures lent_kept { (memory.exit.now ≡ memory.entry.now) × (store.exit.now ≡ store.entry.now) }
 {
     match test(code, memory, depth, table, store) {
         Count::Refused(refusal) => Preview::decline(refusal),

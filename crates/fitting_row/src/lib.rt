@@ -81,14 +81,14 @@ pub fn fit(
     store: &mut [i32],
     budget: u32,
 ) -> Run
-    ensures store_after { (
+    ensures row { (
       run_answer result,
       buffers code.new table.new memory.new store.new,
     )
         ≡ fit text.now
         (buffers code.old table.old memory.old store.old) budget }
-    ensures budget_value { (c : Command) → read_text text.now ≡ gives c
-        → Ready c (record { code = code.entry.now; table = table.old })
+    ensures of_accepted { (c : Command) → read_text text.now ≡ gives c
+        → Ready c (record { code = code.old; table = table.old })
         memory.old store.old
         → run_source text.now store.old budget ≡ (run_answer result, store.new) }
 {

@@ -87,8 +87,8 @@ around_kept (suc (suc zero)) r i e = kept_at 2 around to_2 Any 2 e record {
       elim taken as (λ (k : Bool).
       (q : ℕ) × (successor {Name = Address} (length around) 2 (JMPGE (negsuc 2)) k ≡ To q)
       × (to_2 q ≡ height_after {Name = Address} (JMPGE (negsuc 2)) 2) × Any q) [
-        true ↦ (0, refl, refl, tt)
-      | false ↦ (3, refl, refl, tt)
+        | true ↦ (0, refl, refl, tt)
+        | false ↦ (3, refl, refl, tt)
       ];
 }
 around_kept (suc (suc (suc p))) r i e = past e

@@ -8,7 +8,7 @@ use mathlib.Core.Option.{none, some}
 use borrow.Author.Tests.{leb-true, le-leb}
 use lib.Dec.{leb}
 use lib.IntN.{ℤ}
-use Rattle.base.specs.Acts.{if◌then◌else◌}
+use Rattle.std.specs.Prelude.{if◌then◌else◌}
 use Rattle.word.specs.declared.Target.{Target}
 use Rattle.record.specs.Records.{Record, LOADI, LOAD, STORE, JMP, JMPLESS, JMPGE}
 use Rattle.record.specs.Bytes.{Kind, unknown, operation, is_zero, record_of}

@@ -1,6 +1,6 @@
 -- What a record comes to at a height, by its bytes, and code that passed the tests of records.
-use Rattle.std.specs.Prelude.{◌≡◌, ℕ, suc, ◌+◌, ◌-◌, ◌*◌, ◌≤◌, ◌<◌, ◌&&◌, List, [], ◌∷◌, eqb, leb, ltb, ℤ, length, get_or}
-use Rattle.base.specs.Acts.{if◌then◌else◌}
+use Rattle.std.specs.Prelude.{◌≡◌, ℕ, suc, ◌+◌, ◌-◌, ◌*◌, ◌≤◌, ◌<◌, ◌&&◌, List, [], ◌∷◌, eqb, leb, ltb, ℤ, length}
+use Rattle.std.specs.Prelude.{get_or, if◌then◌else◌}
 use Rattle.base.specs.Answers.{gives}
 use Rattle.word.specs.Numbers.{number_at}
 use Rattle.word.specs.Targets.{target}

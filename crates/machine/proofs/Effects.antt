@@ -7,7 +7,8 @@ use lib.IntN.{ℤ, pos, negsuc, ◌+ℤ◌}
 use lib.Dec.{T, ltb, leb, lt→ltb, le→leb}
 use lib.Arith.{le→nltb}
 use lib.Signed.{lt_z}
-use Rattle.base.specs.Acts.{ok, ended, then', if◌then◌else◌}
+use Rattle.std.specs.Prelude.{if◌then◌else◌}
+use Rattle.base.specs.Acts.{ok, ended, then'}
 use Rattle.word.specs.Sums.{Sum}
 use Rattle.word.specs.Targets.{within, target}
 use Rattle.word.specs.declared.Target.TheVariants.{To, Astray}

@@ -11,7 +11,8 @@ use lib.IntN.{ℤ, pos, negsuc, ◌+ℤ◌}
 use lib.Dec.{T, ltb, leb, leb→le}
 use lib.ListN.{length, get_elem?}
 use lib.Signed.{lt_z}
-use Rattle.base.specs.Acts.{Outcome, ok, ended, Act, then', if◌then◌else◌}
+use Rattle.std.specs.Prelude.{if◌then◌else◌}
+use Rattle.base.specs.Acts.{Outcome, ok, ended, Act, then'}
 use Rattle.word.specs.Sums.{Sum, fits, out, SumRule}
 use Rattle.word.specs.Targets.{within, target}
 use Rattle.word.specs.declared.Target.{Target}

@@ -11,7 +11,8 @@ use lib.Dec.{ltb}
 use lib.Arith.{le→nltb}
 use lib.ListN.{length}
 use lib.Signed.{lt_z}
-use Rattle.base.specs.Acts.{Outcome, ok, ended, then', if◌then◌else◌}
+use Rattle.std.specs.Prelude.{if◌then◌else◌}
+use Rattle.base.specs.Acts.{Outcome, ok, ended, then'}
 use Rattle.word.specs.Sums.{Sum, fits, out, SumRule}
 use Rattle.word.specs.Targets.{target}
 use Rattle.word.specs.declared.Target.TheVariants.{To, Astray}

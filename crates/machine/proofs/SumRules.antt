@@ -9,7 +9,8 @@ use lib.Dec.{ltb}
 use lib.IntN.{ℤ}
 use lib.ListN.{length}
 use lib.Signed.{lt_z}
-use Rattle.base.specs.Acts.{Outcome, ok, ended, Act, then', if◌then◌else◌}
+use Rattle.std.specs.Prelude.{if◌then◌else◌}
+use Rattle.base.specs.Acts.{Outcome, ok, ended, Act, then'}
 use Rattle.base.specs.Ends.{Fault, End, fault, Result, result}
 use Rattle.word.specs.Sums.{Sum, fits, out, SumRule, stopping, holding, stopping_at, Extends}
 use Rattle.word.specs.Targets.{target}

@@ -1,10 +1,10 @@
 -- The stack machine, once for both memories (document 01, "Executors"; document 001, iexec and m-iexec), and the mark
 -- of its runs (document 02, W2).
-use Rattle.std.specs.Prelude.{ℕ, zero, suc, max, List, ℤ, ltb, length}
+use Rattle.std.specs.Prelude.{ℕ, zero, suc, max, List, ℤ, ltb, length, if◌then◌else◌}
 use Rattle.std.proofs.Math.Option.{Option, none, some}
 use Rattle.std.proofs.Math.ListN.{get_elem?}
 use Rattle.std.specs.Int.Signed.{lt_z}
-use Rattle.base.specs.Acts.{Outcome, ok, ended, Act, ◌>>=◌, ◌>>◌, if◌then◌else◌}
+use Rattle.base.specs.Acts.{Outcome, ok, ended, Act, ◌>>=◌, ◌>>◌}
 use Rattle.base.specs.Ends.{Fault, short, full, out_of_range, astray, End, done, spent, fault, Result, result}
 use Rattle.word.specs.Sums.{Sum, fits, out, SumRule}
 use Rattle.word.specs.Targets.{target}

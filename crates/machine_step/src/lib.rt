@@ -192,7 +192,7 @@ impl Machine {
     // STORE of assembly: the top value taken off and kept in a variable. Short.
     fn store_in(self, store: &mut [i32], stack: &[i32], limits: Limits, variable: Variable) -> Step
         requires ready { Ready self limits stack.now × (limits.layout ≡ Upward) }
-        requires depth_value { (limits.depth ≡ length stack.now) × (variable.0 < length store.old) }
+        requires inside { (limits.depth ≡ length stack.now) × (variable.0 < length store.old) }
         ensures { step_of result (assembly_of store.new stack.now)
             ≡ on_assembly self limits.last (assembly_of store.old stack.now)
             (STORE variable) }

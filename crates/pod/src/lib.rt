@@ -18,9 +18,9 @@ pub extern "C" fn profile_read(text: &[u8]) -> u64
 // Compiles a text into machine code and its table: the sizes, or the refusal.
 #[unsafe(no_mangle)]
 pub extern "C" fn profile_compile(text: &[u8], code: &mut [u8], table: &mut [u8]) -> u64
-    ensures { (result, record { code = code.exit.now; table = table.new })
+    ensures { (result, record { code = code.new; table = table.new })
         ≡ beside packed_sizes
-        (compile text.now (record { code = code.entry.now; table = table.old })) }
+        (compile text.now (record { code = code.old; table = table.old })) }
 {
     pod_packing::pack_sizes(compile_machine::compile(text, code, table))
 }

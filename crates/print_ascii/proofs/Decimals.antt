@@ -13,7 +13,7 @@ use mir.Syntax.{w32}
 use mir.Val.{SFits, to_z, of_z}
 use mir.Facts.{to_z-of_z}
 use borrow.Author.Tests.{lt-ltb, le-ltb, ltb-true}
-use Rattle.base.specs.Acts.{if◌then◌else◌}
+use Rattle.std.specs.Prelude.{if◌then◌else◌}
 use Rattle.word.specs.Numbers.{bits_of}
 use Rattle.print.specs.Ascii.{ascii}
 use Rattle.print.specs.Numbers.{decimal_by, decimal, signed}

@@ -10,7 +10,7 @@ use lib.Dec.{eqb}
 use lib.IntN.{ℤ, pos}
 use lib.ListN.{length, get_or, length-append}
 use borrow.Author.Tests.{ne_eqb}
-use Rattle.base.specs.Acts.{if◌then◌else◌}
+use Rattle.std.specs.Prelude.{if◌then◌else◌}
 use Rattle.word.specs.Numbers.{number_at}
 use Rattle.record.specs.Records.{Record, LOADI, LOAD, STORE, JMP, JMPLESS, JMPGE}
 use Rattle.record.specs.Bytes.{Kind, operand, Operation, loadi, load, add, store, jmp, jmpless, jmpge, unknown}

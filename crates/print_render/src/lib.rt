@@ -58,7 +58,7 @@ fn put_lines(
 // What is printed for an accepted text of these sizes.
 fn render_accepted(text: &[u8], out: &mut [u8], sizes: Sizes) -> usize
     requires room { 200000 ≤ length out.old }
-    requires sizes_value { gives sizes ≡ read_call text.now }
+    requires accepted { gives sizes ≡ read_call text.now }
     ensures { Puts (shown text.now) 0 out.old out.new result }
 {
     let mut assembly = code_buffer();
@@ -87,7 +87,7 @@ pub fn output_buffer() -> [u8; LONGEST_OUTPUT]
 // What is printed for a text, from the start of the buffer on: how many bytes that is.
 pub fn render(text: &[u8], out: &mut [u8; LONGEST_OUTPUT]) -> usize
     ensures puts { Puts (shown text.now) 0 out.old out.new result }
-    ensures upper_bound { result ≤ length out.new }
+    ensures within { result ≤ length out.new }
 {
     match text_read::read(text) {
         Reading::Refused(refusal) => print_lines::put_refusal(out, 0, refusal),

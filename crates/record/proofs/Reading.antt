@@ -15,7 +15,7 @@ use lib.ListN.{length, get_or, get_elem?}
 use lib.Seq.{get_or-append-add}
 use mir.Syntax.{w32}
 use mir.Val.{SFits}
-use Rattle.base.specs.Acts.{if◌then◌else◌}
+use Rattle.std.specs.Prelude.{if◌then◌else◌}
 use Rattle.word.specs.Numbers.{number_of, number_at, bytes_of}
 use Rattle.word.proofs.Claims.{number_of_bytes}
 use Rattle.record.specs.Records.{Record, LOADI, LOAD, ADD, STORE, JMP, JMPLESS, JMPGE}

@@ -10,7 +10,7 @@ use lib.IntN.{ℤ, pos, negsuc}
 use mir.Syntax.{w32}
 use mir.Val.{SFits}
 use borrow.Author.Tests.{ne_eqb, lt-ltb, le-ltb, lt-leb}
-use Rattle.base.specs.Acts.{if◌then◌else◌}
+use Rattle.std.specs.Prelude.{if◌then◌else◌}
 use Rattle.word.specs.Numbers.{bits_of}
 use Rattle.record.specs.Bytes as Bytes
 use Rattle.record.specs.Bytes.{unknown, operation, name_of, option_map, is_zero, record_of}

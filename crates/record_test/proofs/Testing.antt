@@ -10,7 +10,7 @@ use lib.Dec.{leb}
 use lib.IntN.{ℤ, pos, negsuc}
 use lib.ListN.{get_or}
 use borrow.Author.Tests.{le-leb}
-use Rattle.base.specs.Acts.{if◌then◌else◌}
+use Rattle.std.specs.Prelude.{if◌then◌else◌}
 use Rattle.base.specs.Answers.{Answer, gives, refused, and_then}
 use Rattle.word.specs.Numbers.{number_at}
 use Rattle.record.specs.Records.{Record, LOAD, ADD, STORE, rename}

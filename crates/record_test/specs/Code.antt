@@ -1,7 +1,6 @@
 -- What the code's kinds and its test of code say.
-use Rattle.std.specs.Prelude.{◌≡◌, ℕ, ◌≤◌, ◌<◌, Bool, true, false, ◌&&◌, List, eqb, leb}
+use Rattle.std.specs.Prelude.{◌≡◌, ℕ, ◌≤◌, ◌<◌, Bool, true, false, ◌&&◌, List, eqb, leb, if◌then◌else◌}
 use Rattle.std.proofs.Math.Option.{Option, none, some}
-use Rattle.base.specs.Acts.{if◌then◌else◌}
 use Rattle.base.specs.Answers.{gives, refused}
 use Rattle.record.specs.Records.{Record}
 use Rattle.record.specs.Bytes as Bytes

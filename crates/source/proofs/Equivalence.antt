@@ -9,7 +9,8 @@ use mathlib.Core.Bool.{Bool, true, false, not, ◌&&◌, beq}
 use lib.IntN.{ℤ, pos, ◌+ℤ◌}
 use lib.ListN.{get_or, set}
 use lib.Signed.{lt_z}
-use Rattle.base.specs.Acts.{ok, ended, then', ◌>>=◌, ◌>>◌, give, if◌then◌else◌}
+use Rattle.std.specs.Prelude.{if◌then◌else◌}
+use Rattle.base.specs.Acts.{ok, ended, then', ◌>>=◌, ◌>>◌, give}
 use Rattle.word.specs.Sums.{Sum, fits, out, SumRule}
 use Rattle.word.specs.Claims.{Exact}
 use Rattle.text.specs.Syntax.{Expression, Constant, Variable, Plus, Condition, Bc, Not, And, Less, Command, SKIP}

@@ -5,7 +5,8 @@ use mathlib.Core.Path.{◌≡◌, refl}
 use Prim.Native.Nat.{ℕ, zero, suc, ◌≤◌, ◌<◌}
 use native.Mathlib.Omega.{arith}
 use mathlib.Core.Bool.{Bool, true, false}
-use Rattle.base.specs.Acts.{ok, ended, then', ◌>>=◌, ◌>>◌, give, if◌then◌else◌}
+use Rattle.std.specs.Prelude.{if◌then◌else◌}
+use Rattle.base.specs.Acts.{ok, ended, then', ◌>>=◌, ◌>>◌, give}
 use Rattle.word.specs.Sums.{SumRule}
 use Rattle.text.specs.Syntax.{Condition, Command}
 use Rattle.source.specs.Rules.{State, Rule, Outcomes, charge, tick, truth, loop, exec}

@@ -7,7 +7,8 @@ use mathlib.Core.List.{List}
 use lib.Dec.{eqb}
 use lib.ListN.{length}
 use lib.Signed.{lt_z}
-use Rattle.base.specs.Acts.{◌>>=◌, ◌>>◌, give, if◌then◌else◌}
+use Rattle.std.specs.Prelude.{if◌then◌else◌}
+use Rattle.base.specs.Acts.{◌>>=◌, ◌>>◌, give}
 use Rattle.base.specs.Answers.{gives, unless◌refuse◌at◌else◌, and_then, settle, previewed}
 use Rattle.base.specs.Ends.{report}
 use Rattle.base.proofs.Settled.{unless_same}

@@ -1,8 +1,8 @@
 -- What is claimed of the source rules. The proof of the same spelling stands in proofs/. WHILE is the printed rule; two
 -- rules for sums that agree give the same runs; the source rules lead to the stores to which the published big-step
 -- rules lead, wherever no budget brings a sum past a limit; and a constant's width changes no run.
-use Rattle.std.specs.Prelude.{◌≡◌, ◌↔◌, false, ℕ, List, length}
-use Rattle.base.specs.Acts.{ok, ended, ◌>>=◌, ◌>>◌, give, if◌then◌else◌}
+use Rattle.std.specs.Prelude.{◌≡◌, ◌↔◌, false, ℕ, List, length, if◌then◌else◌}
+use Rattle.base.specs.Acts.{ok, ended, ◌>>=◌, ◌>>◌, give}
 use Rattle.base.specs.Answers.{gives}
 use Rattle.base.specs.Ends.{End, ran}
 use Rattle.word.specs.Sums.{SumRule, stopping, holding, stopping_at, Extends}

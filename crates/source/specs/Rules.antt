@@ -1,9 +1,9 @@
 -- Source rules and ticks (document 01, "Source rules and ticks"), with the stack that they would need (document 02,
 -- W2).
-use Rattle.std.specs.Prelude.{ℕ, zero, suc, ◌-◌, max, Bool, false, not, List, ℤ, pos, get_or, set}
+use Rattle.std.specs.Prelude.{ℕ, zero, suc, ◌-◌, max, Bool, false, not, List, ℤ, pos, get_or, set, if◌then◌else◌}
 use Rattle.std.specs.Bool.{beq}
 use Rattle.std.specs.Int.Signed.{lt_z}
-use Rattle.base.specs.Acts.{Outcome, ok, ended, Act, ◌>>=◌, ◌>>◌, give, if◌then◌else◌}
+use Rattle.base.specs.Acts.{Outcome, ok, ended, Act, ◌>>=◌, ◌>>◌, give}
 use Rattle.base.specs.Ends.{End, Fault, fault, Result, result}
 use Rattle.word.specs.Sums.{Sum, fits, out, SumRule}
 use Rattle.text.specs.Syntax.{Expression, Constant, Variable, Plus, Condition, Bc, Not, And, Less, Command, SKIP}

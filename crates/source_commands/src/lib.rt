@@ -24,11 +24,11 @@ pub enum Progress {
 
 // The value that stood on the stack stored: one tick.
 fn stored(store: &mut [i32; VARIABLES], v: usize, z: i32, next: usize, left: &mut u32) -> Progress
-    requires v_bound { v < 64 }
+    requires variable_bound { v < 64 }
     requires store_len { length store.old ≡ 64 }
-    ensures by_index { (mark : ℕ) → went result left.new mark store.new
+    ensures stored { (mark : ℕ) → went result left.new mark store.new
         ≡ up_to next (storing v z) (state left.old 1 mark store.old) }
-    ensures store_len_2 { length store.new ≡ 64 }
+    ensures store_len_after { length store.new ≡ 64 }
 {
     if *left == 0 {
         return Progress::Spent;
@@ -59,14 +59,14 @@ fn assignment(
     left: &mut u32,
     mark: &mut usize,
 ) -> Progress
-    requires at_value { get_or text.now at 0 ≡ 0x01 }
+    requires first_byte { get_or text.now at 0 ≡ 0x01 }
     requires text_len { length text.now ≡ 4096 }
     requires read { Read (command text.now nest at) }
     requires store_len { length store.old ≡ 64 }
     ensures store_after { went result left.new mark.new store.new
         ≡ placed (exec sums) (command text.now nest at)
         (state left.old 0 mark.old store.old) }
-    ensures store_len_2 { length store.new ≡ 64 }
+    ensures store_len_after { length store.new ≡ 64 }
 {
     match right_side(text, at + 2, nest - 1, store, left) {
         Value::Spent { high } => {
@@ -99,7 +99,7 @@ pub fn execute(
     ensures store_after { went result left.new mark.new store.new
         ≡ placed (exec sums) (command text.now deepest start)
         (state left.old 0 mark.old store.old) }
-    ensures store_len_2 { length store.new ≡ 64 }
+    ensures store_len_after { length store.new ≡ 64 }
 {
     let mut at = start;
     let mut nest = deepest;
@@ -132,7 +132,7 @@ fn choice(
     mark: &mut usize,
     ends: &[u16],
 ) -> Progress
-    requires at_value { get_or text.now at 0 ≡ 0x03 }
+    requires first_byte { get_or text.now at 0 ≡ 0x03 }
     requires text_len { length text.now ≡ 4096 }
     requires read { Read (command text.now nest at) }
     requires store_len { length store.old ≡ 64 }
@@ -140,7 +140,7 @@ fn choice(
     ensures store_after { went result left.new mark.new store.new
         ≡ placed (exec sums) (command text.now nest at)
         (state left.old 0 mark.old store.old) }
-    ensures store_len_2 { length store.new ≡ 64 }
+    ensures store_len_after { length store.new ≡ 64 }
 {
     match test(text, at + 1, nest - 1, false, store, left, mark, ends) {
         Truth::Spent => return Progress::Spent,
@@ -168,7 +168,7 @@ fn repeat(
     mark: &mut usize,
     ends: &[u16],
 ) -> Progress
-    requires at_value { get_or text.now at 0 ≡ 0x04 }
+    requires first_byte { get_or text.now at 0 ≡ 0x04 }
     requires text_len { length text.now ≡ 4096 }
     requires read { Read (command text.now nest at) }
     requires store_len { length store.old ≡ 64 }
@@ -176,7 +176,7 @@ fn repeat(
     ensures store_after { went result left.new mark.new store.new
         ≡ placed (exec sums) (command text.now nest at)
         (state left.old 0 mark.old store.old) }
-    ensures store_len_2 { length store.new ≡ 64 }
+    ensures store_len_after { length store.new ≡ 64 }
 {
     loop {
         match guard(text, at + 1, nest - 1, store, left, mark, ends) {

@@ -2,8 +2,7 @@
 // are copied into arrays for the run, which is then faster (source_values says why).
 #![tactic(auto)]
 
-ghost use Rattle.std.specs.Prelude.{◌≡◌, ◌≤◌, leb, length, get_or};
-ghost use Rattle.base.specs.Acts.{if◌then◌else◌};
+ghost use Rattle.std.specs.Prelude.{◌≡◌, ◌≤◌, leb, length, get_or, if◌then◌else◌};
 ghost use Rattle.base.specs.Answers.{gives, and_then};
 ghost use Rattle.base.specs.Code.{run_answer, preview_answer};
 ghost use Rattle.text.specs.Syntax.{Command};
@@ -81,7 +80,7 @@ fn run_command(
     requires store_len { length store.old ≡ 64 }
     requires part_ends { PartEnds text.now ends.now }
     ensures runs { Runs text.now budget store.old (run_answer result, store.new) }
-    ensures store_len_2 { length store.new ≡ 64 }
+    ensures store_len_after { length store.new ≡ 64 }
 {
     let mut left = budget;
     let mut mark = 0;
@@ -101,9 +100,9 @@ fn run_noted(
     requires laid { Laid text.now buffer.now }
     requires store_len { length store.old ≡ 64 }
     requires part_ends { PartEnds text.now ends.old }
-    requires ends_value { get_or ends.old 0 0 ≡ 0 }
+    requires none_noted { get_or ends.old 0 0 ≡ 0 }
     ensures runs { Runs buffer.now budget store.old (run_answer result, store.new) }
-    ensures store_len_2 { length store.new ≡ 64 }
+    ensures store_len_after { length store.new ≡ 64 }
 {
     note_ends(text, from, ends);
     run_command(buffer, store, budget, ends)
@@ -120,7 +119,7 @@ fn run_short(
     requires laid { Laid text.now buffer.now }
     requires store_len { length store.old ≡ 64 }
     ensures runs { Runs buffer.now budget store.old (run_answer result, store.new) }
-    ensures store_len_2 { length store.new ≡ 64 }
+    ensures store_len_after { length store.new ≡ 64 }
 {
     let mut ends = [0u16; SHORT_TEXT];
     run_noted(text, buffer, store, budget, from, &mut ends)
@@ -137,7 +136,7 @@ fn run_long(
     requires laid { Laid text.now buffer.now }
     requires store_len { length store.old ≡ 64 }
     ensures runs { Runs buffer.now budget store.old (run_answer result, store.new) }
-    ensures store_len_2 { length store.new ≡ 64 }
+    ensures store_len_after { length store.new ≡ 64 }
 {
     let mut ends = [0u16; text::LONGEST];
     run_noted(text, buffer, store, budget, from, &mut ends)
@@ -145,11 +144,11 @@ fn run_long(
 
 // Runs a text that passed the tests, on a store of its own. Before the first loop no part is passed over twice.
 fn run_text(text: &[u8], store: &mut [i32; VARIABLES], budget: u32) -> Run
-    requires text_value { (c : Command) × (read_text text.now ≡ gives c) }
+    requires accepted { (c : Command) × (read_text text.now ≡ gives c) }
     requires store_len { length store.old ≡ 64 }
     ensures store_after { (c : Command) → read_text text.now ≡ gives c
         → (run_answer result, store.new) ≡ runs c budget store.old }
-    ensures store_len_2 { length store.new ≡ 64 }
+    ensures store_len_after { length store.new ≡ 64 }
 {
     let mut buffer = [0u8; text::LONGEST];
     copy_bytes(text, &mut buffer);
@@ -185,8 +184,8 @@ pub fn run_source(text: &[u8], store: &mut [i32], budget: u32) -> Run
 // Runs a text on a copy of a store under a budget: the end, the count and the mark, and the store that the run would
 // leave. It refuses as run_source does, and its store is then 64 zeros.
 pub fn preview_source(text: &[u8], store: &[i32], budget: u32) -> Preview
-    ensures result_value { preview_answer result ≡ preview_source text.now store.now budget }
-    ensures store_value { store.now ≡ store.now }
+    ensures answer { preview_answer result ≡ preview_source text.now store.now budget }
+    ensures store_kept { store.exit.now ≡ store.entry.now }
 {
     match test(text, store) {
         Reading::Refused(refusal) => Preview::decline(refusal),

@@ -87,8 +87,8 @@ fn variable(
     store: &[i32; VARIABLES],
     left: &mut u32,
 ) -> Value
-    requires at_bound { at + 1 < 4096 }
-    requires at_bound_2 { get_or text.now (at + 1) 0 < 64 }
+    requires operand_inside { at + 1 < 4096 }
+    requires variable_bound { get_or text.now (at + 1) 0 < 64 }
     ensures evaluates { Evaluates result left.old left.new store.now
         (up_to (at + 2) (value sums (Variable (get_or text.now (at + 1) 0)))) }
     ensures within { Within result 1 }
@@ -107,7 +107,7 @@ fn variable(
 // The sum of two values that stood on the stack, where at most `high` stood: one tick. A sum past a limit is the limit.
 fn summed(x: i32, y: i32, high: usize, next: usize, left: &mut u32) -> Value
     requires { 1 ≤ high }
-    ensures by_index { (h mark : ℕ) (m : List ℤ) → valued result left.new h mark m
+    ensures summed { (h mark : ℕ) (m : List ℤ) → valued result left.new h mark m
         ≡ up_to next (summing x y) (state left.old (suc (suc h)) (max mark (h + high)) m) }
     ensures within { Within result high }
 {
@@ -161,7 +161,7 @@ fn plus(
     store: &[i32; VARIABLES],
     left: &mut u32,
 ) -> Value
-    requires at_value { get_or text.now at 0 ≡ 0x12 }
+    requires first_byte { get_or text.now at 0 ≡ 0x12 }
     requires text_len { length text.now ≡ 4096 }
     requires read { Read (expression text.now nest at) }
     ensures evaluates { Evaluates result left.old left.new store.now
@@ -270,7 +270,7 @@ fn smaller(
     left: &mut u32,
     mark: &mut usize,
 ) -> Truth
-    requires at_value { get_or text.now at 0 ≡ 0x23 }
+    requires first_byte { get_or text.now at 0 ≡ 0x23 }
     requires text_len { length text.now ≡ 4096 }
     requires read { Read (condition text.now nest at) }
     ensures { (flag : Bool) → tested result left.new mark.new store.now

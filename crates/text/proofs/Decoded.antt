@@ -9,7 +9,8 @@ use mathlib.Core.List.{List, [], ◌∷◌}
 use lib.Dec.{leb, eqb}
 use lib.ListN.{length, get_or}
 use borrow.Author.Tests.{leb-true, eqb-true}
-use Rattle.base.specs.Acts.{Outcome, ok, ended, then', ◌>>=◌, ◌>>◌, give, if◌then◌else◌}
+use Rattle.std.specs.Prelude.{if◌then◌else◌}
+use Rattle.base.specs.Acts.{Outcome, ok, ended, then', ◌>>=◌, ◌>>◌, give}
 use Rattle.word.specs.Numbers.{number_at}
 use Rattle.word.proofs.Claims.{bytes_of_number, numbers_fit, signed_bytes}
 use Rattle.text.specs.Syntax.{Width, four_bytes, one_byte}
@@ -91,7 +92,8 @@ module _ (text : List ℕ) where
 
   -- The text's four bytes from i on
   bytes_at : (i : ℕ) → i + 4 ≤ length text
-      → Holds text i (get_or text i 0 ∷ get_or text (i + 1) 0 ∷ get_or text (i + 2) 0 ∷ get_or text (i + 3) 0 ∷ []) (i + 4)
+      → Holds text i (get_or text i 0 ∷ get_or text (i + 1) 0 ∷ get_or text (i + 2) 0 ∷ get_or text (i + 3) 0 ∷ [])
+      (i + 4)
   unfolding Holds
   bytes_at i h =
       let second : i + 1 + 1 ≡ i + 2 = omega arith in

@@ -12,7 +12,8 @@ use lib.ListN.{length}
 use mir.Syntax.{w8, w32}
 use mir.Val.{SFits}
 use borrow.Author.Tests.{le-leb}
-use Rattle.base.specs.Acts.{ok, then', ◌>>=◌, ◌>>◌, give, if◌then◌else◌}
+use Rattle.std.specs.Prelude.{if◌then◌else◌}
+use Rattle.base.specs.Acts.{ok, then', ◌>>=◌, ◌>>◌, give}
 use Rattle.word.specs.Numbers.{number_at, bytes_of, byte_of}
 use Rattle.word.proofs.Claims.{number_of_bytes, signed_bytes}
 use Rattle.text.specs.Syntax.{four_bytes, one_byte}

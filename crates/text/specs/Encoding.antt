@@ -1,8 +1,7 @@
 -- A command as the bytes of a text, and the limits of texts (document 01, "Profile text"; document 02, W1).
-use Rattle.std.specs.Prelude.{ℕ, suc, ◌<◌, ◌≤◌, max, List, [], ◌∷◌, ◌++◌, length, get_or}
+use Rattle.std.specs.Prelude.{ℕ, suc, ◌<◌, ◌≤◌, max, List, [], ◌∷◌, ◌++◌, length, get_or, if◌then◌else◌}
 use Rattle.std.specs.Int.{w8, w32}
 use Rattle.std.proofs.Common.{SFits}
-use Rattle.base.specs.Acts.{if◌then◌else◌}
 use Rattle.word.specs.Numbers.{bytes_of, byte_of}
 use Rattle.text.specs.Syntax.{four_bytes, one_byte}
 use Rattle.text.specs.Syntax.{Expression, Constant, Variable, Plus, Condition, Bc, Not, And, Less, Command}

@@ -1,7 +1,7 @@
 -- Reading a profile text (document 01, "Profile text" and "When a call declines"; document 02, W1).
 -- "Reading goes left to right; at a construct 1, 4, 2, then its operand 1, 3; at the end 5."
-use Rattle.std.specs.Prelude.{ℕ, zero, suc, ◌+◌, List, leb, eqb, ℤ, length, get_or}
-use Rattle.base.specs.Acts.{Outcome, ok, ended, Act, ◌>>=◌, ◌>>◌, give, if◌then◌else◌}
+use Rattle.std.specs.Prelude.{ℕ, zero, suc, ◌+◌, List, leb, eqb, ℤ, length, get_or, if◌then◌else◌}
+use Rattle.base.specs.Acts.{Outcome, ok, ended, Act, ◌>>=◌, ◌>>◌, give}
 use Rattle.base.specs.Answers.{Answer, gives, refused, Refusal, refusal, unless◌refuse◌at◌else◌}
 use Rattle.word.specs.Numbers.{number_at, byte_number}
 use Rattle.text.specs.Syntax.{Width, four_bytes, one_byte, bytes_in}

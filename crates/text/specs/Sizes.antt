@@ -1,7 +1,6 @@
 -- What reading tells of a text: its record count, its depth bound D and its n (document 01, "Records").
-use Rattle.std.specs.Prelude.{ℕ, zero, suc, ◌+◌, max, Bool, false, not, ◌||◌, eqb}
+use Rattle.std.specs.Prelude.{ℕ, zero, suc, ◌+◌, max, Bool, false, not, ◌||◌, eqb, if◌then◌else◌}
 use Rattle.std.specs.Bool.{beq}
-use Rattle.base.specs.Acts.{if◌then◌else◌}
 use Rattle.text.specs.Syntax.{Expression, Constant, Variable, Plus, Condition, Bc, Not, And, Less, Command}
 use Rattle.text.specs.Syntax.{SKIP, ◌:=◌, ◌⨾◌, IF◌THEN◌ELSE◌, WHILE◌DO◌}
 use Rattle.text.specs.declared.Sizes.{Sizes}

@@ -1,7 +1,7 @@
 -- What an answer of the code says of a part of a text.
-use Rattle.std.specs.Prelude.{◌≡◌, ℕ, ◌+◌, ◌<◌, ◌≤◌, max, ◌^◌, Bool, false, List, eqb, ℤ, length, get_or}
+use Rattle.std.specs.Prelude.{◌≡◌, ℕ, ◌+◌, ◌<◌, ◌≤◌, max, ◌^◌, Bool, false, List, eqb, ℤ, length, get_or, if◌then◌else◌}
 use Rattle.std.specs.Bool.{beq}
-use Rattle.base.specs.Acts.{Outcome, ok, ended, if◌then◌else◌}
+use Rattle.base.specs.Acts.{Outcome, ok, ended}
 use Rattle.text.specs.Syntax.{Expression, Condition}
 use Rattle.base.specs.Answers.{Refusal, refusal}
 use Rattle.text.specs.Reading.{Reader, ExpressionByte, ConditionByte}

@@ -1,9 +1,8 @@
 // Reading the bytes of an expression or of a condition.
 #![tactic(auto)]
 
-ghost use Rattle.std.specs.Prelude.{◌≡◌, List, Bool, ℕ, ◌+◌, ◌<◌, max, length, get_or};
+ghost use Rattle.std.specs.Prelude.{◌≡◌, List, Bool, ℕ, ◌+◌, ◌<◌, max, length, get_or, if◌then◌else◌};
 ghost use Rattle.std.specs.Bool.{beq};
-ghost use Rattle.base.specs.Acts.{if◌then◌else◌};
 ghost use Rattle.text.specs.Reading.{expression_byte, number, operand, expression, condition};
 ghost use Rattle.text.specs.Reading.{plus, negation, conjunction, comparison};
 ghost use Rattle.text_shape.specs.Shape.{width_of};
@@ -144,9 +143,9 @@ fn value(text: &[u8], at: usize, flag: bool) -> PartReading
 fn two_expressions(text: &[u8], at: usize, nest: usize, named: &mut [u8; VARIABLES]) -> PartReading
     requires given { Given text.now named.old }
     requires at_in_bounds { at < length text.now }
-    ensures answered { Answered expressions (expression_parts text.now nest plus at) result
+    ensures as_plus { Answered expressions (expression_parts text.now nest plus at) result
         named.old named.new }
-    ensures answered_2 { (flag : Bool) → Answered (conditions flag)
+    ensures as_less { (flag : Bool) → Answered (conditions flag)
         (condition_parts text.now nest comparison at) result named.old named.new }
 {
     let first = expression(text, at + 1, nest, named);
@@ -160,9 +159,9 @@ fn two_expressions(text: &[u8], at: usize, nest: usize, named: &mut [u8; VARIABL
 // (With a test of equality here the four bytes become a table of jumps, and reading is slower.)
 fn one_byte_constant(text: &[u8], at: usize) -> PartReading
     requires at_in_bounds { at < length text.now }
-    requires fact { get_or text.now at 0 ≡ 0x10 → ⊥ }
-    requires fact_2 { get_or text.now at 0 ≡ 0x11 → ⊥ }
-    requires fact_3 { get_or text.now at 0 ≡ 0x12 → ⊥ }
+    requires no_constant { get_or text.now at 0 ≡ 0x10 → ⊥ }
+    requires no_variable { get_or text.now at 0 ≡ 0x11 → ⊥ }
+    requires no_plus { get_or text.now at 0 ≡ 0x12 → ⊥ }
     ensures { (nest : ℕ) (m : List ℕ) → Answered expressions
         (expression_parts text.now nest (expression_byte (get_or text.now at 0)) at) result m m }
 {

@@ -7,7 +7,7 @@ use lib.Dec.{ltb}
 use lib.ListN.{length, get_or, set, length-set}
 use lib.Seq.{set_out, get_or-set_other}
 use borrow.Author.Tests.{ltb-true, ltb-false, lt-ltb, le-ltb}
-use Rattle.base.specs.Acts.{if◌then◌else◌}
+use Rattle.std.specs.Prelude.{if◌then◌else◌}
 use Rattle.text_shape.specs.Caches.{Right}
 use Rattle.text_shape.proofs.Caching.{stays_set}
 use Rattle.text_ends.specs.Ends.{noted}

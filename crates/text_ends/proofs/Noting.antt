@@ -28,7 +28,8 @@ module _ {text : List ℕ} where
     two : {p q r : ℕ} → q ≡ get_or ends p 0 → r ≡ get_or ends q 0 → (r ≡ 0 → ⊥) → Row text p 2 r
     two e f n = in_a_row text (one e (first_known f n)) (one f n)
 
-    three : {p q r t : ℕ} → q ≡ get_or ends p 0 → r ≡ get_or ends q 0 → t ≡ get_or ends r 0 → (t ≡ 0 → ⊥) → Row text p 3 t
+    three : {p q r t : ℕ} → q ≡ get_or ends p 0 → r ≡ get_or ends q 0 → t ≡ get_or ends r 0 → (t ≡ 0 → ⊥)
+        → Row text p 3 t
     three e f g n = in_a_row text (two e f (first_known g n)) (one g n)
 
     -- ---- By the construct's first byte
@@ -64,9 +65,11 @@ module _ {text : List ℕ} where
       unfolding width due_after
       not_end e f n = opens text 0x21 i e (omega arith) (one f n)
 
-      pub pair_end : {q r : ℕ} → (get_or text i 0 ≡ 0x00 → ⊥) → (get_or text i 0 ≡ 0x01 → ⊥) → (get_or text i 0 ≡ 0x03 → ⊥)
+      pub pair_end : {q r : ℕ} → (get_or text i 0 ≡ 0x00 → ⊥) → (get_or text i 0 ≡ 0x01 → ⊥)
+          → (get_or text i 0 ≡ 0x03 → ⊥)
           → (Begins (get_or text i 0) → ⊥) → (get_or text i 0 ≡ 0x11 → ⊥) → (get_or text i 0 ≡ 0x20 → ⊥)
-          → (get_or text i 0 ≡ 0x21 → ⊥) → q ≡ get_or ends (i + 1) 0 → r ≡ get_or ends q 0 → (r ≡ 0 → ⊥) → Row text i 1 r
+          → (get_or text i 0 ≡ 0x21 → ⊥) → q ≡ get_or ends (i + 1) 0 → r ≡ get_or ends q 0 → (r ≡ 0 → ⊥)
+          → Row text i 1 r
       pair_end n0 n1 n2 n3 n4 n5 n6 f g n =
           let b = get_or text i 0 in
           let w = pair_width b n0 n1 n2 n3 n4 n5 n6 in

@@ -10,7 +10,8 @@ use mathlib.Core.List.{List}
 use lib.Dec.{eqb}
 use lib.ListN.{length, get_or}
 use borrow.Author.Tests.{eqb-true, eqb-false, ne_eqb}
-use Rattle.base.specs.Acts.{Outcome, ok, if◌then◌else◌}
+use Rattle.std.specs.Prelude.{if◌then◌else◌}
+use Rattle.base.specs.Acts.{Outcome, ok}
 use Rattle.text.specs.Syntax.{Condition, Command}
 use Rattle.base.specs.Answers.{Refusal}
 use Rattle.text.specs.Reading.{Reader, expression, condition, command}
@@ -65,7 +66,8 @@ module _ (text : List ℕ) where
   unfolding width due_after
   expression_first nest side i a n k j e r = by (eqb (get_or text i 0) 0x11) refl (eqb (get_or text i 0) 0x12) refl
     where
-      by : (s : Bool) → eqb (get_or text i 0) 0x11 ≡ s → (t : Bool) → eqb (get_or text i 0) 0x12 ≡ t → Row text i (suc k) j
+      by : (s : Bool) → eqb (get_or text i 0) 0x11 ≡ s → (t : Bool) → eqb (get_or text i 0) 0x12 ≡ t
+          → Row text i (suc k) j
       by true s t g =
           let b = eqb-true _ 0x11 s in
           let p = (variable_at text nest i e b).1 in

@@ -1,6 +1,5 @@
 -- Where a part of a text ends, and a cache of that.
-use Rattle.std.specs.Prelude.{ℕ, suc, ◌+◌, ◌≤◌, List, [], ◌∷◌, eqb, ltb, length, get_or, set}
-use Rattle.base.specs.Acts.{if◌then◌else◌}
+use Rattle.std.specs.Prelude.{ℕ, suc, ◌+◌, ◌≤◌, List, [], ◌∷◌, eqb, ltb, length, get_or, set, if◌then◌else◌}
 use Rattle.text_shape.specs.Shape.{begins_constant, constant_width}
 use Rattle.text_shape.specs.Caches.{Right}
 

@@ -84,7 +84,7 @@ fn scan_end(text: &[u8], start: usize) -> usize
 
 // The same, looked up where it is known.
 pub fn part_end(text: &[u8], start: usize, ends: &[u16]) -> usize
-    requires by_index { (end : ℕ) × Row text.now start 1 end }
+    requires row { (end : ℕ) × Row text.now start 1 end }
     requires part_ends { PartEnds text.now ends.now }
     ensures { Row text.now start 1 result }
 {
@@ -110,7 +110,7 @@ fn inside(text: &[u8], at: usize) -> usize
 fn end_at(text: &[u8], at: usize, ends: &[u16]) -> usize
     requires at_in_bounds { at < length text.now }
     requires part_ends { PartEnds text.now ends.now }
-    requires ends_value { get_or ends.now 0 0 ≡ 0 }
+    requires none_noted { get_or ends.now 0 0 ≡ 0 }
     ensures { (result ≡ 0 → ⊥) → Row text.now at 1 result }
 {
     let op = text[at];
@@ -130,7 +130,7 @@ fn end_at(text: &[u8], at: usize, ends: &[u16]) -> usize
 // for the first of one too: nobody looks those up.)
 pub fn note_ends(text: &[u8], from: usize, ends: &mut [u16])
     requires part_ends { PartEnds text.now ends.old }
-    requires ends_value { get_or ends.old 0 0 ≡ 0 }
+    requires none_noted { get_or ends.old 0 0 ≡ 0 }
     ensures { PartEnds text.now ends.new }
 {
     let mut at = text.len();

@@ -8,7 +8,8 @@ use mathlib.Core.List.{List}
 use lib.Dec.{eqb}
 use lib.ListN.{length, replicate, get_or-replicate}
 use borrow.Author.Tests.{le-leb, lt-leb}
-use Rattle.base.specs.Acts.{Outcome, ok, ended, if◌then◌else◌}
+use Rattle.std.specs.Prelude.{if◌then◌else◌}
+use Rattle.base.specs.Acts.{Outcome, ok, ended}
 use Rattle.base.specs.Answers.{gives, refused, and_then}
 use Rattle.text.specs.Syntax.{Command}
 use Rattle.base.specs.Answers.{Refusal, refusal}

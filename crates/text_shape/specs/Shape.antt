@@ -1,6 +1,5 @@
 -- The shape of a text: the bytes of a constant.
-use Rattle.std.specs.Prelude.{ℕ, ◌+◌, Bool, ◌||◌, List, eqb, get_or}
-use Rattle.base.specs.Acts.{if◌then◌else◌}
+use Rattle.std.specs.Prelude.{ℕ, ◌+◌, Bool, ◌||◌, List, eqb, get_or, if◌then◌else◌}
 use Rattle.text.specs.Syntax.{Width, four_bytes, one_byte, bytes_in}
 use Rattle.text.specs.Reading.{operand_number}
 use Rattle.text_shape.specs.declared.Constant.{Constant}

@@ -11,7 +11,7 @@ use borrow.Author.Tests.{eq-eqb}
 use mir.Syntax.{w8, w32}
 use mir.Val.{to_z, of_z}
 use mir.Facts.{to_z-of_z, of_z-to_z, Fits-of_z, sfits_to_z}
-use Rattle.base.specs.Acts.{if◌then◌else◌}
+use Rattle.std.specs.Prelude.{if◌then◌else◌}
 use Rattle.word.specs.Sums.{least, greatest, Sum, fits, out, limited, stopping, clamped, holding}
 use Rattle.word.specs.Numbers.{joined, number_of, number_at, split, bits_of, bytes_of, byte_number, byte_of}
 use Rattle.word.specs.Targets.{within, target}

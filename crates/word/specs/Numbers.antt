@@ -14,7 +14,8 @@ number_of b0 b1 b2 b3 = to_z w32 (joined b0 b1 b2 b3)
 
 -- The number of the four bytes from a position on
 unfoldable pub number_at : List ℕ → ℕ → ℤ
-number_at bytes i = number_of (get_or bytes i 0) (get_or bytes (i + 1) 0) (get_or bytes (i + 2) 0) (get_or bytes (i + 3) 0)
+number_at bytes i = number_of (get_or bytes i 0) (get_or bytes (i + 1) 0) (get_or bytes (i + 2) 0)
+    (get_or bytes (i + 3) 0)
 
 -- The four bytes of an unsigned number, lowest first
 abbrev pub split : ℕ → List ℕ

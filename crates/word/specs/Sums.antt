@@ -1,7 +1,6 @@
 -- Sums on 32-bit numbers (document 01, "Source rules and ticks"; document 02, W8).
-use Rattle.std.specs.Prelude.{◌≡◌, ℤ, pos, negsuc, ◌+ℤ◌, ℕ, eqb}
+use Rattle.std.specs.Prelude.{◌≡◌, ℤ, pos, negsuc, ◌+ℤ◌, ℕ, eqb, if◌then◌else◌}
 use Rattle.std.specs.Int.Signed.{lt_z}
-use Rattle.base.specs.Acts.{if◌then◌else◌}
 
 -- The limits, −2147483648 and 2147483647 (negsuc k is −1 − k)
 abbrev pub least : ℤ

@@ -1,6 +1,5 @@
 -- Where a jump leads (document 01, "Records" and "Executors").
-use Rattle.std.specs.Prelude.{ℕ, suc, ℤ, pos, negsuc, ◌+ℤ◌, leb}
-use Rattle.base.specs.Acts.{if◌then◌else◌}
+use Rattle.std.specs.Prelude.{ℕ, suc, ℤ, pos, negsuc, ◌+ℤ◌, leb, if◌then◌else◌}
 use Rattle.word.specs.declared.Target.{Target}
 use Rattle.word.specs.declared.Target.TheVariants.{To, Astray}
 

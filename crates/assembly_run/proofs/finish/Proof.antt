@@ -157,7 +157,8 @@ again c =
     record {
       store_long = t.step_assembly.auto.store ∙ i.store_long;
       stack_long = t.step_assembly.auto.stack ∙ i.stack_long;
-      going = λ g. (going_on (i.going g) not_done.if-machine-last.false not_spent.if-machine-budget.false on.in-Next.is did).0;
+      going = λ g.
+          (going_on (i.going g) not_done.if-machine-last.false not_spent.if-machine-budget.false on.in-Next.is did).0;
     }
 
 ended : tie.Need-returns-in-Ended invariant-loop-machine decreases-loop-machine
@@ -172,9 +173,13 @@ ended c =
     let did = deep turn.loop-machine.machine s.args.last s.args.code.now (lent turn) i.stack_long
     t.step_assembly.ensures in (
       λ P g.
-          (ends_by (i.going (record { P = P; given = g })) not_done.if-machine-last.false not_spent.if-machine-budget.false
+          (ends_by (i.going (record {
+            P = P;
+            given = g;
+          })) not_done.if-machine-last.false not_spent.if-machine-budget.false
           end.in-Ended.is did).0,
-      (ends_by (i.going (had s)) not_done.if-machine-last.false not_spent.if-machine-budget.false end.in-Ended.is did).1,
+      (ends_by (i.going
+          (had s)) not_done.if-machine-last.false not_spent.if-machine-budget.false end.in-Ended.is did).1,
     )
 
 pub finish_spec : {M : Type 1} → statement M
@@ -184,11 +189,15 @@ finish_spec =
     invariant-loop-machine
     decreases-loop-machine
     begins
-    (λ c. let turn : tie.At-loop-machine invariant-loop-machine decreases-loop-machine = search in turn.loop-machine.invariant.store_long)
-    (λ c. let turn : tie.At-loop-machine invariant-loop-machine decreases-loop-machine = search in turn.loop-machine.invariant.stack_long)
+    (λ c. let turn : tie.At-loop-machine invariant-loop-machine decreases-loop-machine = search in
+    turn.loop-machine.invariant.store_long)
+    (λ c. let turn : tie.At-loop-machine invariant-loop-machine decreases-loop-machine = search in
+    turn.loop-machine.invariant.stack_long)
     done
-    (λ c. let turn : tie.At-loop-machine invariant-loop-machine decreases-loop-machine = search in turn.loop-machine.invariant.store_long)
-    (λ c. let turn : tie.At-loop-machine invariant-loop-machine decreases-loop-machine = search in turn.loop-machine.invariant.stack_long)
+    (λ c. let turn : tie.At-loop-machine invariant-loop-machine decreases-loop-machine = search in
+    turn.loop-machine.invariant.store_long)
+    (λ c. let turn : tie.At-loop-machine invariant-loop-machine decreases-loop-machine = search in
+    turn.loop-machine.invariant.stack_long)
     spent
     step_requires
     (λ c. search rules)

@@ -239,7 +239,8 @@ pub +write_command_write_if_write_sequence_write_while_spec : {M : Type 1} → s
     let no_skip : InWriteCommand t command_lts.Else-byte-eq-SKIP = search in
     let s : InWriteCommand t command_lts.Start = search in
     let byte = text_says.last_command s.args.text.now s.args.nest s.args.at s.requires.1.0.is
-    no_skip.if-byte-eq-SKIP.false no_assignment.if-byte-eq-ASSIGN.false no_sequence.if-byte-eq-SEQUENCE.false no_if.if-byte-eq-IF.false in
+    no_skip.if-byte-eq-SKIP.false no_assignment.if-byte-eq-ASSIGN.false no_sequence.if-byte-eq-SEQUENCE.false
+    no_if.if-byte-eq-IF.false in
     (omega (arith, s.requires.0), (byte, s.requires.1)))
     (λ c. let w : InWriteCommand t command_lts.After-write_while = search in w.write_while.auto.out)
     (λ c. let w : InWriteCommand t command_lts.After-write_while = search in w.write_while.ensures))
@@ -271,9 +272,12 @@ pub +write_command_write_if_write_sequence_write_while_spec : {M : Type 1} → s
     let m = tested.condition_size-test.ensures in
     let o = text_says.command_opened _ _ _ s.requires.1.1.0.is in
     (text_says.down o s.requires.0, (guards.body_writable (if_guard t s) m.0, m.1)))
-    (λ c. let yes : InWriteIf t if_lts.After-write_command-yes = search in record { fits = omega (arith, yes_few t yes) })
-    (λ c. let yes : InWriteIf t if_lts.After-write_command-yes = search in record { fits = omega (arith, yes_few t yes) })
-    (λ c. let yes : InWriteIf t if_lts.After-write_command-yes = search in record { fits = omega (arith, yes_few t yes) })
+    (λ c. let yes : InWriteIf t if_lts.After-write_command-yes = search in
+    record { fits = omega (arith, yes_few t yes) })
+    (λ c. let yes : InWriteIf t if_lts.After-write_command-yes = search in
+    record { fits = omega (arith, yes_few t yes) })
+    (λ c. let yes : InWriteIf t if_lts.After-write_command-yes = search in
+    record { fits = omega (arith, yes_few t yes) })
     (λ c. let s : InWriteIf t if_lts.Start = search in (text_says.command_opened _ _ _ s.requires.1.1.0.is).nested)
     (λ c.
     let yes : InWriteIf t if_lts.After-write_command-yes = search in
@@ -304,7 +308,8 @@ pub +write_command_write_if_write_sequence_write_while_spec : {M : Type 1} → s
     no.write_command-no.ensures.0)
     (λ c. let s : InWriteIf t if_lts.Start = search in record { fits = if_next_fits t s })
     (λ c. let s : InWriteIf t if_lts.Start = search in (text_says.command_opened _ _ _ s.requires.1.1.0.is).nested)
-    (λ c. let yes : InWriteIf t if_lts.After-write_command-yes = search in record { fits = omega (arith, yes_few t yes) })
+    (λ c. let yes : InWriteIf t if_lts.After-write_command-yes = search in
+    record { fits = omega (arith, yes_few t yes) })
     (λ c κs.
     let jump : InWriteIf t if_lts.After-put_record = search in
     let no : InWriteIf t if_lts.After-write_command-no = search in
@@ -442,7 +447,8 @@ pub +write_command_write_if_write_sequence_write_while_spec : {M : Type 1} → s
     let m = tested.condition_size-test.ensures in
     let o = text_says.command_opened _ _ _ s.requires.1.1.0.is in
     (text_says.down o s.requires.0, (guards.body_writable (while_guard t s) m.0, m.1)))
-    (λ c. let b : InWriteWhile t while_lts.After-write_command-body = search in record { fits = omega (arith, few t b) })
+    (λ c. let b : InWriteWhile t while_lts.After-write_command-body = search in
+    record { fits = omega (arith, few t b) })
     (λ c κs. let b : InWriteWhile t while_lts.After-write_command-body = search in omega (arith, few t b))
     (λ c κs.
     let body : InWriteWhile t while_lts.After-write_command-body = search in
@@ -453,7 +459,8 @@ pub +write_command_write_if_write_sequence_write_while_spec : {M : Type 1} → s
     (λ c.
     let s : InWriteWhile t while_lts.Start = search in
     (text_says.command_opened _ _ _ s.requires.1.1.0.is).nested)
-    (λ c. let b : InWriteWhile t while_lts.After-write_command-body = search in record { fits = omega (arith, few t b) })
+    (λ c. let b : InWriteWhile t while_lts.After-write_command-body = search in
+    record { fits = omega (arith, few t b) })
     (λ c κs.
     let jump : InWriteWhile t while_lts.After-put_record = search in
     let back : InWriteWhile t while_lts.After-back_over = search in
@@ -466,7 +473,8 @@ pub +write_command_write_if_write_sequence_write_while_spec : {M : Type 1} → s
     let number = read_back w32 back.back_over.type_inv back.back_over.ensures in
     let inside = guards.with_jump_back g m w jump.put_record.ensures number in
     (fronts.test_writable (guards.front_told g m w) m inside, (size_told m, body.write_command-body.ensures.1)))
-    (λ c. let b : InWriteWhile t while_lts.After-write_command-body = search in record { fits = omega (arith, few t b) })
+    (λ c. let b : InWriteWhile t while_lts.After-write_command-body = search in
+    record { fits = omega (arith, few t b) })
     -- same-length
     (λ c.
     let test : InWriteWhile t while_lts.After-write_condition = search in

@@ -39,9 +39,11 @@ test_spec =
     let long : tie.Else-table-ne-TABLE_BYTES = search in
     let on : tie.Else-not-is_whole = search in
     let w : tie.After-is_whole = search in
-    let x = tabled (sym w.is_whole.ensures ∙ on.if-not-is_whole.false) long.if-table-ne-TABLE_BYTES.false names.names.ensures
+    let x = tabled (sym w.is_whole.ensures
+    ∙ on.if-not-is_whole.false) long.if-table-ne-TABLE_BYTES.false names.names.ensures
     n.in-Cells.is in
-    c.decline-then-place-count.ensures ∙ mismatched _ _ _ x m.machine.ensures f.mismatch-place.ensures bad.if-place-count.true)
+    c.decline-then-place-count.ensures
+    ∙ mismatched _ _ _ x m.machine.ensures f.mismatch-place.ensures bad.if-place-count.true)
     (λ c. search rules)
     (λ c κs. search rules)
     (λ c.
@@ -54,7 +56,8 @@ test_spec =
     let long : tie.Else-table-ne-TABLE_BYTES = search in
     let on : tie.Else-not-is_whole = search in
     let w : tie.After-is_whole = search in
-    let x = tabled (sym w.is_whole.ensures ∙ on.if-not-is_whole.false) long.if-table-ne-TABLE_BYTES.false names.names.ensures
+    let x = tabled (sym w.is_whole.ensures
+    ∙ on.if-not-is_whole.false) long.if-table-ne-TABLE_BYTES.false names.names.ensures
     n.in-Cells.is in
     c.decline-then-out-count.ensures
     ∙ no_room _ _ _ x m.machine.ensures f.mismatch-place.ensures good.if-place-count.false short.if-out-count.true)
@@ -76,6 +79,7 @@ test_spec =
     let long : tie.Else-table-ne-TABLE_BYTES = search in
     let on : tie.Else-not-is_whole = search in
     let w : tie.After-is_whole = search in
-    let x = tabled (sym w.is_whole.ensures ∙ on.if-not-is_whole.false) long.if-table-ne-TABLE_BYTES.false names.names.ensures
+    let x = tabled (sym w.is_whole.ensures
+    ∙ on.if-not-is_whole.false) long.if-table-ne-TABLE_BYTES.false names.names.ensures
     n.in-Cells.is in
     accepts _ _ _ x m.machine.ensures f.mismatch-place.ensures good.if-place-count.false c.if-out-count.false))

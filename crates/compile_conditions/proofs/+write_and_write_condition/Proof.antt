@@ -13,7 +13,7 @@ use lib.ListN.{get_or}
 use mir.Syntax.{w32}
 use mir.Facts.{to_z_pos}
 use Rattle.base.proofs.Cycles.{Member, twice, one_more, at, below, State, here}
-use Rattle.base.specs.Acts.{if◌then◌else◌}
+use Rattle.std.specs.Prelude.{if◌then◌else◌}
 use Rattle.text.specs.Syntax.{Condition, And}
 use Rattle.text.specs.Reading.{condition}
 use Rattle.text.proofs.Opened as text_says
@@ -281,7 +281,13 @@ pub +write_and_write_condition_spec : {M : Type 1} → statement M
     let on : InWriteCondition t lts.Then-byte-eq-BC = search in
     let p : InWriteCondition t lts.After-past_nots-bare = search in
     let s : InWriteCondition t lts.Start = search in
-    record { fits = omega (arith, (text_says.bc_at _ _ _ (found t p).is on.if-byte-eq-BC.true).inside, s.well_formed.0.0) })
+    record {
+      fits = omega (
+        arith,
+        (text_says.bc_at _ _ _ (found t p).is on.if-byte-eq-BC.true).inside,
+        s.well_formed.0.0,
+      );
+    })
     (returns t)
     (λ c. let s : InWriteCondition t lts.Start = search in record { sfits = omega (arith, s.requires.1.0.few) })
     (λ c κs.
@@ -289,12 +295,19 @@ pub +write_and_write_condition_spec : {M : Type 1} → statement M
     let size : InWriteCondition t lts.After-value_size = search in
     let on : InWriteCondition t lts.Then-byte-eq-BC = search in
     let p : InWriteCondition t lts.After-past_nots-bare = search in
-    rows.leaf_room (found t p) _ (jump t p on.if-byte-eq-BC.true size.value_size.ensures some_left.if-value_size-eq0.false))
+    rows.leaf_room (found t p) _
+    (jump t p on.if-byte-eq-BC.true size.value_size.ensures some_left.if-value_size-eq0.false))
     (λ c.
     let on : InWriteCondition t lts.Then-byte-eq-BC = search in
     let p : InWriteCondition t lts.After-past_nots-bare = search in
     let s : InWriteCondition t lts.Start = search in
-    record { fits = omega (arith, (text_says.bc_at _ _ _ (found t p).is on.if-byte-eq-BC.true).inside, s.well_formed.0.0) })
+    record {
+      fits = omega (
+        arith,
+        (text_says.bc_at _ _ _ (found t p).is on.if-byte-eq-BC.true).inside,
+        s.well_formed.0.0,
+      );
+    })
     (λ c. let put : InWriteCondition t lts.After-put_record = search in put.put_record.auto.out)
     (returns_2 t)
     -- And

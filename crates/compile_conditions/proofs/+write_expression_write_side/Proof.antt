@@ -108,7 +108,12 @@ pub +write_expression_write_side_spec : {M : Type 1} → statement M
     let first : InWriteExpression t lts.After-write_side-first = search in
     let on : InWriteExpression t lts.Else-text-at-ne-PLUS = search in
     let s : InWriteExpression t lts.Start = search in
-    record { fits = omega (arith, rows.first_few (sides t s on.if-text-at-ne-PLUS.false) first.write_side-first.ensures) })
+    record {
+      fits = omega (
+        arith,
+        rows.first_few (sides t s on.if-text-at-ne-PLUS.false) first.write_side-first.ensures,
+      );
+    })
     (λ c.
     let s : InWriteExpression t lts.Start = search in
     (text_says.expression_opened _ _ _ s.requires.1.is).nested)
@@ -127,9 +132,12 @@ pub +write_expression_write_side_spec : {M : Type 1} → statement M
     let first : InWriteExpression t lts.After-write_side-first = search in
     let on : InWriteExpression t lts.Else-text-at-ne-PLUS = search in
     let s : InWriteExpression t lts.Start = search in
-    let o = text_says.expression_opened _ _ _ s.requires.1.is in
-    (text_says.down o s.requires.0, rows.second_writable (sides t s on.if-text-at-ne-PLUS.false) first.write_side-first.ensures))
-    (λ c. let v : InWriteExpression t lts.After-write_side-second = search in record { fits = omega (arith, both_few t v) })
+    let o = text_says.expression_opened _ _ _ s.requires.1.is in (
+      text_says.down o s.requires.0,
+      rows.second_writable (sides t s on.if-text-at-ne-PLUS.false) first.write_side-first.ensures,
+    ))
+    (λ c. let v : InWriteExpression t lts.After-write_side-second = search in
+    record { fits = omega (arith, both_few t v) })
     (λ c κs.
     let second : InWriteExpression t lts.After-write_side-second = search in
     let first : InWriteExpression t lts.After-write_side-first = search in
@@ -139,7 +147,8 @@ pub +write_expression_write_side_spec : {M : Type 1} → statement M
     let w = first.write_side-first.ensures in
     let v = second.write_side-second.ensures in
     rows.last_room p w v)
-    (λ c. let v : InWriteExpression t lts.After-write_side-second = search in record { fits = omega (arith, both_few t v) })
+    (λ c. let v : InWriteExpression t lts.After-write_side-second = search in
+    record { fits = omega (arith, both_few t v) })
     (λ c.
     let add : InWriteExpression t lts.After-put_record = search in
     let second : InWriteExpression t lts.After-write_side-second = search in

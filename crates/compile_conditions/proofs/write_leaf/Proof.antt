@@ -36,10 +36,14 @@ returns c =
     let on : tie.Then-text-at-eq-VARIABLE = search in
     let s : tie.Start = search in
     let v = get_or s.args.text.now (s.args.at + 1) 0 in
-    let number = to_z_pos w32 {n = v} (omega (arith, byte.shared_slice_known-then-text-at-eq-VARIABLE-1.given (s.args.at + 1))) in
+    let number = to_z_pos w32 {n = v} (omega (
+      arith,
+      byte.shared_slice_known-then-text-at-eq-VARIABLE-1.given (s.args.at + 1),
+    )) in
     rows.leaf s.requires.1 (LOAD (variable v)) (load s on.if-text-at-eq-VARIABLE.true)
     (text_says.variable_at _ _ _ s.requires.1.is on.if-text-at-eq-VARIABLE.true).1.ends refl
-    (one {index = 0} _ (rows.leaf_room s.requires.1 _ (load s on.if-text-at-eq-VARIABLE.true)) p.put_record.ensures refl number)
+    (one {index = 0} _
+    (rows.leaf_room s.requires.1 _ (load s on.if-text-at-eq-VARIABLE.true)) p.put_record.ensures refl number)
 
 -- ---- A constant
 

@@ -8,7 +8,7 @@ use borrow.Author.Rules.{rules}
 use lib.IntN.{pos}
 use mir.Syntax.{w32}
 use mir.Facts.{to_z_pos}
-use Rattle.base.specs.Acts.{if◌then◌else◌}
+use Rattle.std.specs.Prelude.{if◌then◌else◌}
 use Rattle.text.specs.Syntax.{Less}
 use Rattle.text.specs.Reading.{expression}
 use Rattle.text.proofs.Opened as text_says

@@ -46,4 +46,5 @@ test_spec =
     let r : tie.After-read-reading = search in
     let bytes : tie.After-shared_slice_known-1 = search in
     let f = found (λ i. (bytes.shared_slice_known-1.given i).fits) r.read-reading.ensures z.in-Accepted.is in
-    ap gives f.tells ∙ passes _ _ _ f.read long.if-table-ne-TABLE_BYTES.false (omega (arith, c.if-code-sizes.false, f.count))))
+    ap gives f.tells
+    ∙ passes _ _ _ f.read long.if-table-ne-TABLE_BYTES.false (omega (arith, c.if-code-sizes.false, f.count))))

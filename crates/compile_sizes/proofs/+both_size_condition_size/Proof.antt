@@ -162,11 +162,23 @@ pub +both_size_condition_size_spec : {M : Type 1} → statement M
     (λ c.
     let p : InConditionSize t lts.After-past_nots-bare = search in
     let s : InConditionSize t lts.Start = search in
-    record { fits = omega (arith, (text_says.bc_at _ _ _ (found t p).is c.if-byte-eq-BC.true).inside, s.well_formed.0.0) })
+    record {
+      fits = omega (
+        arith,
+        (text_says.bc_at _ _ _ (found t p).is c.if-byte-eq-BC.true).inside,
+        s.well_formed.0.0,
+      );
+    })
     (λ c.
     let p : InConditionSize t lts.After-past_nots-bare = search in
     let s : InConditionSize t lts.Start = search in
-    record { fits = omega (arith, (text_says.bc_at _ _ _ (found t p).is c.if-byte-eq-BC.true).inside, s.well_formed.0.0) })
+    record {
+      fits = omega (
+        arith,
+        (text_says.bc_at _ _ _ (found t p).is c.if-byte-eq-BC.true).inside,
+        s.well_formed.0.0,
+      );
+    })
     (λ c.
     let on : InConditionSize t lts.Then-byte-eq-BC = search in
     let p : InConditionSize t lts.After-past_nots-bare = search in

@@ -124,30 +124,41 @@ pub +expression_size_two_sizes_spec : {M : Type 1} → statement M
     let off : InExpressionSize t lts.Else-byte-eq-CONSTANT = search in
     let s : InExpressionSize t lts.Start = search in
     let o = text_says.expression_opened _ _ _ s.requires.1.is in
-    let byte = last_sum _ _ _ s.requires.1.is off.if-byte-eq-CONSTANT.false other.if-byte-eq-VARIABLE.false c.if-byte-lt-ONE_BYTE_CONSTANT.true in
+    let byte = last_sum _ _ _ s.requires.1.is off.if-byte-eq-CONSTANT.false other.if-byte-eq-VARIABLE.false
+    c.if-byte-lt-ONE_BYTE_CONSTANT.true in
     (omega (arith, o.nested, s.requires.0), rw (sum t s byte) at s.requires.1))
     (λ c.
     let on : InExpressionSize t lts.Then-byte-lt-ONE_BYTE_CONSTANT = search in
     let other : InExpressionSize t lts.Else-byte-eq-VARIABLE = search in
     let off : InExpressionSize t lts.Else-byte-eq-CONSTANT = search in
     let s : InExpressionSize t lts.Start = search in
-    let byte = last_sum _ _ _ s.requires.1.is off.if-byte-eq-CONSTANT.false other.if-byte-eq-VARIABLE.false on.if-byte-lt-ONE_BYTE_CONSTANT.true in
+    let byte = last_sum _ _ _ s.requires.1.is off.if-byte-eq-CONSTANT.false other.if-byte-eq-VARIABLE.false
+    on.if-byte-lt-ONE_BYTE_CONSTANT.true in
     rw (sum t s byte) c.two_sizes.ensures)
     (λ c κs.
     let other : InExpressionSize t lts.Else-byte-eq-VARIABLE = search in
     let s : InExpressionSize t lts.Start = search in
-    (constant t s (last_constant _ _ _ s.requires.1.is other.if-byte-eq-VARIABLE.false c.if-byte-lt-ONE_BYTE_CONSTANT.false)).inside)
+    (constant t s
+    (last_constant _ _ _ s.requires.1.is other.if-byte-eq-VARIABLE.false c.if-byte-lt-ONE_BYTE_CONSTANT.false)).inside)
     (λ c.
     let rest : InExpressionSize t lts.Else-byte-lt-ONE_BYTE_CONSTANT = search in
     let other : InExpressionSize t lts.Else-byte-eq-VARIABLE = search in
     let s : InExpressionSize t lts.Start = search in
     let r = c.constant_size-2.ensures in
-    constant_told t s (last_constant _ _ _ s.requires.1.is other.if-byte-eq-VARIABLE.false rest.if-byte-lt-ONE_BYTE_CONSTANT.false) r.0 r.1))
+    constant_told t s
+    (last_constant _ _ _ s.requires.1.is other.if-byte-eq-VARIABLE.false rest.if-byte-lt-ONE_BYTE_CONSTANT.false) r.0
+    r.1))
     (λ t.
     two_lts.spec (two_known t) (at two_sizes t) two_sizes.post
     (λ c.
     let s : InTwoSizes t two_lts.Start = search in
-    record { fits = omega (arith, (text_says.expression_opened _ _ _ (sides t s).parts.first).inside, s.well_formed.0.0) })
+    record {
+      fits = omega (
+        arith,
+        (text_says.expression_opened _ _ _ (sides t s).parts.first).inside,
+        s.well_formed.0.0,
+      );
+    })
     (λ c κs. let s : InTwoSizes t two_lts.Start = search in (omega (arith, s.requires.0), first_countable (sides t s)))
     (λ c κs.
     let s : InTwoSizes t two_lts.Start = search in

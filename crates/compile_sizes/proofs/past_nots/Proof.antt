@@ -16,7 +16,8 @@ abbrev decreases-loop-at : tie.decreases-loop-at
 decreases-loop-at text start deepest under at₀ nest₀ flag₀ at nest flag = nest
 
 -- at every turn a condition is read
-opened : (turn : tie.At-loop-at invariant-loop-at decreases-loop-at) → let s : tie.Start invariant-loop-at decreases-loop-at = search in
+opened : (turn : tie.At-loop-at invariant-loop-at decreases-loop-at)
+    → let s : tie.Start invariant-loop-at decreases-loop-at = search in
     Opened s.args.text.now turn.loop-at.nest turn.loop-at.at
 opened turn =
     let s : tie.Start invariant-loop-at decreases-loop-at = search in
@@ -44,4 +45,5 @@ past_nots_spec =
     let going : tie.In-loop-at invariant-loop-at decreases-loop-at = search in
     one_passed turn.loop-at.invariant going.loop-at-test.true)
     -- returns
-    (λ c. let turn : tie.At-loop-at invariant-loop-at decreases-loop-at = search in (turn.loop-at.invariant, c.loop-at-test.false)))
+    (λ c. let turn : tie.At-loop-at invariant-loop-at decreases-loop-at = search in
+    (turn.loop-at.invariant, c.loop-at-test.false)))

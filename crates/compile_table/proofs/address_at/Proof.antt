@@ -17,7 +17,8 @@ of_load c =
     let b : tie.After-byte_at-byte = search in
     let s : tie.Start = search in
     ap address c.name_at.ensures
-    ∙ simp (eq-eqb (get_or s.args.code.now (5 * s.args.i) 0) 0x51 (sym b.byte_at-byte.ensures ∙ on.if-byte-eq-MLOAD.true))
+    ∙ simp (eq-eqb (get_or s.args.code.now (5 * s.args.i) 0) 0x51 (sym b.byte_at-byte.ensures
+    ∙ on.if-byte-eq-MLOAD.true))
 
 of_store : tie.Need-returns-then-byte-eq-MSTORE
 unfolding address_at

@@ -38,7 +38,8 @@ other c = λ x.
     let found : Found = search in
     let going : Going = search in
     let turn : Turn = search in
-    seen_other x (turn.loop-i.invariant.2 x) going.loop-i-test.true turn.loop-i.invariant.0 found.address_at-address.ensures
+    seen_other x
+    (turn.loop-i.invariant.2 x) going.loop-i-test.true turn.loop-i.invariant.0 found.address_at-address.ensures
     above.if-seen-a.true c.if-a-seen.true
 
 next : tie.Need-loop-i-preserved-else-a-seen invariant-loop-i decreases-loop-i
@@ -48,7 +49,8 @@ next c =
     let going : Going = search in
     let turn : Turn = search in
     let s : Start = search in
-    let at : _ = seen_most s.requires (turn.loop-i.invariant.2 s.requires) going.loop-i-test.true turn.loop-i.invariant.0
+    let at : _ = seen_most s.requires
+    (turn.loop-i.invariant.2 s.requires) going.loop-i-test.true turn.loop-i.invariant.0
     found.address_at-address.ensures above.if-seen-a.true in (
       omega (arith, turn.loop-i.invariant.0),
       omega (arith, at, above.if-seen-a.true),

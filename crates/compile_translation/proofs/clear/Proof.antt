@@ -36,4 +36,8 @@ clear_spec =
     (λ c. let turn : tie.At-loop-v invariant-loop-v decreases-loop-v = search in turn.loop-v.invariant.long)
     (λ c.
     let turn : tie.At-loop-v invariant-loop-v decreases-loop-v = search in
-    swept_end turn.loop-v.invariant (omega (arith, turn.loop-v.invariant.long, c.loop-v-test.false)) (length-replicate _ 0)))
+    swept_end turn.loop-v.invariant (omega (
+      arith,
+      turn.loop-v.invariant.long,
+      c.loop-v-test.false,
+    )) (length-replicate _ 0)))

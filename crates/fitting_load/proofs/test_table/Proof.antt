@@ -14,7 +14,8 @@ test_table_spec =
     (λ c κs. search rules)
     (λ c.
     let off : tie.Else-table-ne-TABLE_BYTES = search in
-    c.decline-then-store-ne-VARIABLES.ensures ∙ no_cells _ _ off.if-table-ne-TABLE_BYTES.false c.before.if-store-ne-VARIABLES.true)
+    c.decline-then-store-ne-VARIABLES.ensures
+    ∙ no_cells _ _ off.if-table-ne-TABLE_BYTES.false c.before.if-store-ne-VARIABLES.true)
     (λ c κs. search rules)
     (λ c. search rules)
     (λ c κs. search rules)
@@ -32,4 +33,9 @@ test_table_spec =
     let off2 : tie.Else-store-ne-VARIABLES = search in
     let off : tie.Else-table-ne-TABLE_BYTES = search in
     let both = table_found _ (sym found.names.ensures ∙ n.in-Cells.is) in
-    named _ _ (record { bytes = off.if-table-ne-TABLE_BYTES.false; cells = off2.if-store-ne-VARIABLES.false; passes = both.0; count = both.1 })))
+    named _ _ (record {
+      bytes = off.if-table-ne-TABLE_BYTES.false;
+      cells = off2.if-store-ne-VARIABLES.false;
+      passes = both.0;
+      count = both.1;
+    })))

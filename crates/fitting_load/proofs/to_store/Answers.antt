@@ -17,11 +17,11 @@ loop-v-preserved c =
     let h : v < length old = omega arith in
     let next : List ℤ → Type 0 = λ x. Swept (pos 0) old (read_back t c.args.depth old m) x (v + 1) in
     elim c.if-a-gt0.branch [
-      then-a-gt0 w ↦ subst next (sym w.store-is)
-      (swept_set c.loop-v.invariant h
-      (search rules ∙ takes t c.args.depth old m v h a (λ none. omega (arith, w.if-a-gt0.true))))
-    | else-a-gt0 w ↦ subst next (sym w.store-is)
-      (swept_kept c.loop-v.invariant (keeps t c.args.depth old m v h (omega (arith, a, w.if-a-gt0.false))))
+      | then-a-gt0 w ↦ subst next (sym w.store-is)
+          (swept_set c.loop-v.invariant h
+          (search rules ∙ takes t c.args.depth old m v h a (λ none. omega (arith, w.if-a-gt0.true))))
+      | else-a-gt0 w ↦ subst next (sym w.store-is)
+          (swept_kept c.loop-v.invariant (keeps t c.args.depth old m v h (omega (arith, a, w.if-a-gt0.false))))
     ]
 
 pub returns : goal.returns

@@ -73,12 +73,14 @@ module _ (c : tie.After-visit invariant-loop-i decreases-loop-i) where
 
 -- the labels and the order are as long as they were
 module _ (l : tie.At-loop-i invariant-loop-i decreases-loop-i) where
-  labels_long : let s : tie.Start invariant-loop-i decreases-loop-i = search in length l.loop-i.labels ≡ length s.args.labels.now
+  labels_long : let s : tie.Start invariant-loop-i decreases-loop-i = search in
+      length l.loop-i.labels ≡ length s.args.labels.now
   labels_long =
       let s : tie.Start invariant-loop-i decreases-loop-i = search in
       l.loop-i.invariant.long ∙ length-set s.args.labels.now 0 1
 
-  order_long : let s : tie.Start invariant-loop-i decreases-loop-i = search in length l.loop-i.order ≡ length s.args.order.now
+  order_long : let s : tie.Start invariant-loop-i decreases-loop-i = search in
+      length l.loop-i.order ≡ length s.args.order.now
   order_long =
       let s : tie.Start invariant-loop-i decreases-loop-i = search in
       l.loop-i.invariant.stands.room.wide ∙ labels_long ∙ sym s.requires.wide
@@ -101,7 +103,8 @@ search_spec =
     invariant-loop-i
     decreases-loop-i
     (λ c. let s : tie.Start invariant-loop-i decreases-loop-i = search in omega (arith, s.requires.covered))
-    (λ c. let s : tie.Start invariant-loop-i decreases-loop-i = search in omega (arith, s.requires.covered, s.requires.wide))
+    (λ c. let s : tie.Start invariant-loop-i decreases-loop-i = search in
+    omega (arith, s.requires.covered, s.requires.wide))
     (λ c. let s : tie.Start invariant-loop-i decreases-loop-i = search in begins s.requires)
     (λ c. search rules)
     (λ c. let t : tie.In-loop-i invariant-loop-i decreases-loop-i = search in
@@ -111,12 +114,15 @@ search_spec =
     visit_requires
     (λ c. search rules)
     (λ c. search rules)
-    (λ c. let v : tie.After-visit invariant-loop-i decreases-loop-i = search in v.visit.auto.labels ∙ labels_long (turn v))
-    (λ c. let v : tie.After-visit invariant-loop-i decreases-loop-i = search in v.visit.auto.order ∙ order_long (turn v))
+    (λ c. let v : tie.After-visit invariant-loop-i decreases-loop-i = search in
+    v.visit.auto.labels ∙ labels_long (turn v))
+    (λ c. let v : tie.After-visit invariant-loop-i decreases-loop-i = search in
+    v.visit.auto.order ∙ order_long (turn v))
     clash
     (λ c. let v : tie.After-visit invariant-loop-i decreases-loop-i = search in omega (arith, small v))
     (λ c. let v : tie.After-visit invariant-loop-i decreases-loop-i = search in omega (arith, small v))
     again
     (λ c. let l : tie.At-loop-i invariant-loop-i decreases-loop-i = search in labels_long l)
     (λ c. let l : tie.At-loop-i invariant-loop-i decreases-loop-i = search in order_long l)
-    (λ c. let l : tie.At-loop-i invariant-loop-i decreases-loop-i = search in all_looked l.loop-i.invariant c.loop-i-test.false))
+    (λ c. let l : tie.At-loop-i invariant-loop-i decreases-loop-i = search in
+    all_looked l.loop-i.invariant c.loop-i-test.false))

@@ -175,9 +175,11 @@ finish_spec =
     invariant-loop-machine
     decreases-loop-machine
     begins
-    (λ c. let turn : tie.At-loop-machine invariant-loop-machine decreases-loop-machine = search in turn.loop-machine.invariant.long)
+    (λ c. let turn : tie.At-loop-machine invariant-loop-machine decreases-loop-machine = search in
+    turn.loop-machine.invariant.long)
     done
-    (λ c. let turn : tie.At-loop-machine invariant-loop-machine decreases-loop-machine = search in turn.loop-machine.invariant.long)
+    (λ c. let turn : tie.At-loop-machine invariant-loop-machine decreases-loop-machine = search in
+    turn.loop-machine.invariant.long)
     spent
     step_requires
     (λ c. search rules)

@@ -46,7 +46,8 @@ put_word_spec =
     (λ c. (omega arith, puts_is (puts_none (omega arith)) refl (omega arith)))
     (λ c. search rules)
     (λ c. search rules)
-    (λ c. let turn : tie.At-loop-i invariant-loop-i decreases-loop-i = search in omega (arith, kept turn.loop-i.invariant.1))
+    (λ c. let turn : tie.At-loop-i invariant-loop-i decreases-loop-i = search in
+    omega (arith, kept turn.loop-i.invariant.1))
     (λ c. search rules)
     (λ c. search rules)
     one_more

@@ -83,8 +83,10 @@ render_accepted_spec =
     (λ c. search rules)
     (λ c κs.
     let f : tie.After-run_paired = search in
-    let b = small (begun f) in
-    (((start f).requires.0, b.0), ((omega (arith, b), omega (arith, b)), ((omega arith, omega arith), (came_here f).some))))
+    let b = small (begun f) in (
+      ((start f).requires.0, b.0),
+      ((omega (arith, b), omega (arith, b)), ((omega arith, omega arith), (came_here f).some)),
+    ))
     (λ c. search rules)
     (λ c.
     let no : tie.In-Refused = search in

@@ -90,7 +90,8 @@ execute_claims t = (
 )
 
 abbrev InExecute : ℕ
-    → State execute execute_lts.Claims (execute_lts.invariant-loop-store → execute_lts.decreases-loop-store → Type 0) → Type 0
+    → State execute execute_lts.Claims (execute_lts.invariant-loop-store → execute_lts.decreases-loop-store → Type 0)
+    → Type 0
 InExecute t S = here execute (execute_claims t) t S execute_Inv_loop execute_μ_loop
 
 abbrev repeat_claims : ℕ → repeat_lts.Claims
@@ -104,7 +105,8 @@ repeat_claims t = (
 )
 
 abbrev InRepeat : ℕ
-    → State repeat repeat_lts.Claims (repeat_lts.invariant-loop-value → repeat_lts.decreases-loop-value → Type 0) → Type 0
+    → State repeat repeat_lts.Claims (repeat_lts.invariant-loop-value → repeat_lts.decreases-loop-value → Type 0)
+    → Type 0
 InRepeat t S = here repeat (repeat_claims t) t S repeat_Inv_loop repeat_μ_loop
 
 went_told : (left μ : ℕ) (m : Store) {r r' : Progress} {o : Outcomes (Reached (Unit {0}))} → r ≡ r'
@@ -275,7 +277,8 @@ pub +choice_execute_repeat_spec : {M : Type 1} → statement M
     let w = (command_opened _ _ _ l.loop-store.invariant.read.is).inside in
     omega (arith, s.requires.1.0))
     -- sub-execute
-    (λ c. let l : InExecute t execute_lts.At-loop-store = search in (command_opened _ _ _ l.loop-store.invariant.read.is).nested)
+    (λ c. let l : InExecute t execute_lts.At-loop-store = search in
+    (command_opened _ _ _ l.loop-store.invariant.read.is).nested)
     -- execute-requires
     (λ c κs.
     let k : InExecute t execute_lts.In-2 = search in
@@ -299,7 +302,8 @@ pub +choice_execute_repeat_spec : {M : Type 1} → statement M
     (sym (sequence_ended i.read.is two _ stops) ∙ i.same, f.execute.ensures.1))
     (λ c. search rules)
     -- sub-nest
-    (λ c. let l : InExecute t execute_lts.At-loop-store = search in (command_opened _ _ _ l.loop-store.invariant.read.is).nested)
+    (λ c. let l : InExecute t execute_lts.At-loop-store = search in
+    (command_opened _ _ _ l.loop-store.invariant.read.is).nested)
     -- loop-less
     (λ c.
     let l : InExecute t execute_lts.At-loop-store = search in

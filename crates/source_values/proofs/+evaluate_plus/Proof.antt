@@ -106,7 +106,8 @@ pub +evaluate_plus_spec : {M : Type 1} → statement M
     let r = k.in_default.in_default-own.rest in
     let off : InEvaluate t evaluate_lts.Else-op-lt-ONE_BYTE_CONSTANT = search in (
       s.requires.1.0,
-      (constant_read _ _ _ s.requires.1.1.is (last_constant _ _ _ s.requires.1.1.is r.1 off.if-op-lt-ONE_BYTE_CONSTANT.false)).inside,
+      (constant_read _ _ _ s.requires.1.1.is
+          (last_constant _ _ _ s.requires.1.1.is r.1 off.if-op-lt-ONE_BYTE_CONSTANT.false)).inside,
     ))
     -- returns
     (λ c.
@@ -137,7 +138,8 @@ pub +evaluate_plus_spec : {M : Type 1} → statement M
     let b = last_constant _ _ _ s.requires.1.1.is r.1 off.if-op-lt-ONE_BYTE_CONSTANT.false in
     let p = constant_read _ _ _ s.requires.1.1.is b in (
       λ h μ l. c.constant-else-op-lt-ONE_BYTE_CONSTANT.ensures.0 _ h μ l ∙ sym (placed_is valuing _ p.read),
-      within_more c.constant-else-op-lt-ONE_BYTE_CONSTANT.result 1 s.args.nest (expression_opened _ _ _ s.requires.1.1.is).nested
+      within_more c.constant-else-op-lt-ONE_BYTE_CONSTANT.result 1 s.args.nest
+          (expression_opened _ _ _ s.requires.1.1.is).nested
           c.constant-else-op-lt-ONE_BYTE_CONSTANT.ensures.1,
     )))
     (λ t. plus_lts.spec (plus_claims t) (at plus t) plus.post
@@ -187,7 +189,8 @@ pub +evaluate_plus_spec : {M : Type 1} → statement M
     omega (arith, s.ranges.nest.fits))
     (λ c κs. search rules)
     -- summed-requires
-    (λ c κs. let g : InPlus t plus_lts.After-larger-in-Of-evaluate = search in omega (arith, g.larger-in-Of-evaluate.ensures))
+    (λ c κs. let g : InPlus t plus_lts.After-larger-in-Of-evaluate = search in
+    omega (arith, g.larger-in-Of-evaluate.ensures))
     -- returns
     (λ c.
     let z : InPlus t plus_lts.In-Spent = search in
@@ -235,7 +238,8 @@ pub +evaluate_plus_spec : {M : Type 1} → statement M
     let n = (expression_opened _ _ _ s.requires.1.1.1.is).nested in
     let top = g.larger-in-Of-evaluate.ensures in
     let x_Fits = to_z-of_z {w = w32} {z = x.in-Of.x} (record { sfits = i.in-Of.known_told-in-Of-1-own.given.0.1 }) in
-    let y_fits = to_z-of_z {w = w32} {z = y.in-Of-evaluate.y} (record { sfits = j.in-Of-evaluate.known_told-in-Of-evaluate-2-1-own.given.0.1 }) in
+    let y_fits = to_z-of_z {w = w32} {z = y.in-Of-evaluate.y}
+    (record { sfits = j.in-Of-evaluate.known_told-in-Of-evaluate-2-1-own.given.0.1 }) in
     let rest = f.evaluate-in-Of.new.left in
     let m = s.args.store.now in (
       λ h μ l.

@@ -2,7 +2,8 @@
 use mathlib.Core.Path.{◌≡◌, sym, ap, ◌∙◌}
 use mathlib.Core.Bool.{Bool, true, false, beq}
 use borrow.Author.Rules.{rules}
-use Rattle.base.specs.Acts.{then', ◌>>◌, give, if◌then◌else◌}
+use Rattle.std.specs.Prelude.{if◌then◌else◌}
+use Rattle.base.specs.Acts.{then', ◌>>◌, give}
 use Rattle.text.specs.Syntax.{Bc}
 use Rattle.source.specs.Rules.{State, tick, truth}
 use Rattle.source.specs.Calls.{sums}

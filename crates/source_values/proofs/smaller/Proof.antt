@@ -77,7 +77,8 @@ returns_3 c flag =
     let high : r.raise-in-Of-evaluate.new.mark ≡ max (max μ (0 + a)) (1 + b) =
     omega (arith, r.raise-in-Of-evaluate.ensures, g.larger-in-Of-evaluate.ensures) in
     let x_Fits = to_z-of_z {w = w32} {z = x.in-Of.x} (record { sfits = i.in-Of.known_told-in-Of-1-own.given.0.1 }) in
-    let y_fits = to_z-of_z {w = w32} {z = y.in-Of-evaluate.y} (record { sfits = j.in-Of-evaluate.known_told-in-Of-evaluate-2-1-own.given.0.1 }) in
+    let y_fits = to_z-of_z {w = w32} {z = y.in-Of-evaluate.y}
+    (record { sfits = j.in-Of-evaluate.known_told-in-Of-evaluate-2-1-own.given.0.1 }) in
     let rest = f.evaluate-in-Of.new.left in
     c.compared.ensures _ m
     ∙ (λ i. reaching y.in-Of-evaluate.next (comparing (x_Fits i) (y_fits i) (state rest 2 (high i) m)))

@@ -193,7 +193,8 @@ unfolding command_of decline
     (λ c κs. search rules)
     (λ c.
     let h : InCommand t command_lts.Else-text-at = search in
-    rw (heads.command_deep _ _ _ h.if-text-at.false c.before.if-nest-eq0.true) (declines _ _ _ c.decline-then-nest-eq0.ensures))
+    rw (heads.command_deep _ _ _ h.if-text-at.false c.before.if-nest-eq0.true)
+    (declines _ _ _ c.decline-then-nest-eq0.ensures))
     (λ c. search rules)  -- the byte is there
     (λ c. search rules)
     (λ c. search rules)

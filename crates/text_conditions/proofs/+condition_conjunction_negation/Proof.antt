@@ -102,7 +102,8 @@ unfolding condition_of decline
     (λ c κs. search rules)
     (λ c.
     let h : InCondition t condition_lts.Else-text-at = search in
-    rw (heads.condition_deep _ _ _ h.if-text-at.false c.before.if-nest-eq0.true) (declines _ _ _ c.decline-then-nest-eq0.ensures))
+    rw (heads.condition_deep _ _ _ h.if-text-at.false c.before.if-nest-eq0.true)
+    (declines _ _ _ c.decline-then-nest-eq0.ensures))
     (λ c. search rules)  -- the byte is there
     (λ c. search rules)
     (λ c κs. search rules)  -- Bc's value

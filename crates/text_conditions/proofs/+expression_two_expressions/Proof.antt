@@ -91,7 +91,8 @@ unfolding expression_of condition_of decline
     (λ c κs. search rules)
     (λ c.
     let h : InExpression t expression_lts.Else-text-at = search in
-    rw (heads.expression_deep _ _ _ h.if-text-at.false c.before.if-nest-eq0.true) (declines _ _ _ c.decline-then-nest-eq0.ensures))
+    rw (heads.expression_deep _ _ _ h.if-text-at.false c.before.if-nest-eq0.true)
+    (declines _ _ _ c.decline-then-nest-eq0.ensures))
     (λ c. search rules)  -- the byte is there
     (λ c κs. search rules)  -- constant
     (λ c. search rules)

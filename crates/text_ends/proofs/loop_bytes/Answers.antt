@@ -10,8 +10,16 @@ loop-at-preserved c =
     let i = c.loop-at.at in
     let h : i < length t = c.loop-at-test.true in
     elim c.if-text-at-eq-WHILE.branch [
-      then-text-at-eq-WHILE w ↦ (omega arith, omega arith, omega (arith, one_more 0x04 t i h w.if-text-at-eq-WHILE.true))
-    | else-text-at-eq-WHILE w ↦ (omega arith, omega arith, omega (arith, no_more 0x04 t i h w.if-text-at-eq-WHILE.false))
+      | then-text-at-eq-WHILE w ↦ (
+        omega arith,
+        omega arith,
+        omega (arith, one_more 0x04 t i h w.if-text-at-eq-WHILE.true),
+      )
+      | else-text-at-eq-WHILE w ↦ (
+        omega arith,
+        omega arith,
+        omega (arith, no_more 0x04 t i h w.if-text-at-eq-WHILE.false),
+      )
     ]
 
 pub returns : goal.returns

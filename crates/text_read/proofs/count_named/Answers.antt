@@ -25,8 +25,8 @@ unfolding how_many
 loop-i-preserved c =
     let notes = c.args.named.now in
     elim c.if-named-i-eq1.branch [
-      then-named-i-eq1 w ↦ omega (arith, one_more notes c.loop-i.i w.if-named-i-eq1.true)
-    | else-named-i-eq1 w ↦ omega (arith, none_more notes c.loop-i.i w.if-named-i-eq1.false)
+      | then-named-i-eq1 w ↦ omega (arith, one_more notes c.loop-i.i w.if-named-i-eq1.true)
+      | else-named-i-eq1 w ↦ omega (arith, none_more notes c.loop-i.i w.if-named-i-eq1.false)
     ]
 
 pub returns : goal.returns

@@ -41,7 +41,12 @@ unfolding clamped
 within c =
     let off : tie.Else-s-ltminus2147483648 = search in
     let w : tie.After-wide_sum-s = search in
-    simp (to_z-of_z (fits c) ∙ sum w, rw (sum w) at off.if-s-ltminus2147483648.false, rw (sum w) at c.if-s-gt2147483647.false)
+    simp (
+      to_z-of_z (fits c)
+          ∙ sum w,
+      rw (sum w) at off.if-s-ltminus2147483648.false,
+      rw (sum w) at c.if-s-gt2147483647.false,
+    )
 
 pub add_spec : {M : Type 1} → statement M
 add_spec = tie.close (tie.spec (λ c κs. search rules) below above fits within)

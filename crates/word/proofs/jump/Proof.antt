@@ -25,14 +25,16 @@ next s = to_z_pos w32 {n = s.args.position + 1} (omega arith) ∙ ap pos (add-on
 reached : (c : tie.After-wide_sum-reached) → to_z w64 (of_z w64 c.wide_sum-reached.result) ≡ sum c.before
 reached c =
     let s : tie.Start = search in
-    read_back w64 c.wide_sum-reached.type_inv (c.wide_sum-reached.ensures ∙ (λ i. next s i +ℤ to_z-of_z s.ranges.operand i))
+    read_back w64 c.wide_sum-reached.type_inv (c.wide_sum-reached.ensures
+    ∙ (λ i. next s i +ℤ to_z-of_z s.ranges.operand i))
 
 below : tie.Need-returns-then-reached-lt0
 unfolding target
 below c = let w : tie.After-wide_sum-reached = search in within_below _ _ (rw (reached w) at c.if-reached-lt0.true)
 
 fits : tie.Need-overflow_cast-to
-fits c = let w : tie.After-wide_sum-reached = search in casts w64 w.wide_sum-reached.result w.wide_sum-reached.type_inv c.if-reached-lt0.false
+fits c = let w : tie.After-wide_sum-reached = search in
+    casts w64 w.wide_sum-reached.result w.wide_sum-reached.type_inv c.if-reached-lt0.false
 
 past : tie.Need-returns-then-last-to
 unfolding target

@@ -42,7 +42,8 @@ ended : tie.Need-returns-in_default
 ended c memory =
     let s : tie.Start = search in
     told_end s.args.self.end _ _ (machine_of s.args.self.machine memory)
-    (λ is. miss others 1 tt (subst (λ (e : End). OneOf others (tag_of the_type e)) is c.in_default.in_default-own.keys2))
+    (λ is. miss others 1 tt
+    (subst (λ (e : End). OneOf others (tag_of the_type e)) is c.in_default.in_default-own.keys2))
 
 pub piece_spec : {M : Type 1} → statement M
 piece_spec = tie.close (tie.spec (λ c. search rules) paused ended)

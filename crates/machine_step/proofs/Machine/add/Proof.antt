@@ -36,7 +36,8 @@ pushed c store =
     (poked l store lent (s.args.self.size - 2) (to_z w32 (of_z w32 sum.add.result)) put.poke.ensures)
     test.if-size-lt2.false s.requires.marked
     (summed (here s store) (read_back w32 sum.add.type_inv sum.add.ensures)
-    (peeked l store lent _ x.peek-second.type_inv x.peek-second.ensures) (peeked l store lent _ y.peek-top.type_inv y.peek-top.ensures))
+    (peeked l store lent _ x.peek-second.type_inv x.peek-second.ensures)
+    (peeked l store lent _ y.peek-top.type_inv y.peek-top.ensures))
 
 pub add_spec : {M : Type 1} → statement M
 add_spec =

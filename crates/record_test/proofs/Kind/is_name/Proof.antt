@@ -8,7 +8,8 @@ is_name_spec =
     tie.close
     (tie.spec
     (λ c. simp (le-ltb _ _ c.if-bits-ge2147483648.true))
-    (λ c. let off : tie.Else-bits-ge2147483648 = search in simp (lt-ltb _ _ off.if-bits-ge2147483648.false, lt-leb _ _ c.if-bits-self.true))
+    (λ c. let off : tie.Else-bits-ge2147483648 = search in
+    simp (lt-ltb _ _ off.if-bits-ge2147483648.false, lt-leb _ _ c.if-bits-self.true))
     (λ c.
     let off2 : tie.Else-bits-self = search in
     let off : tie.Else-bits-ge2147483648 = search in

@@ -48,7 +48,8 @@ others c =
     let off : tie.Else-number-eq1 = search in
     let s : tie.Start = search in
     let a = s.args in
-    sym (rest_tested (kind_of a.self) a.operand a.number off.if-number-eq1.false off2.if-number-eq2.false c.if-number-eq3.false)
+    sym (rest_tested
+    (kind_of a.self) a.operand a.number off.if-number-eq1.false off2.if-number-eq2.false c.if-number-eq3.false)
 
 pub takes_spec : {M : Type 1} → statement M
 takes_spec =
