@@ -13,7 +13,7 @@
  *     bits 24-31  D, the depth bound of the stack       (reading and compiling)
  *     bits 32-39  n, how many variables the text names  (reading and compiling)
  *
- * A refusal's number is one of `enum profile_refusal_number`. `rt staticlib pod` makes the library, libpod.a; it links
+ * A refusal's number is one of `enum profile_refusal_number`. `tools/staticlibs` makes the library, libpod.a; it links
  * into x86-64 programs.
  */
 #ifndef PROFILE_H

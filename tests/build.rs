@@ -1,4 +1,4 @@
-// The static libraries that `rt staticlib` wrote; the benchmark names a folder of its own.
+// The static libraries that `tools/staticlibs` wrote; the benchmark names a folder of its own.
 fn main() {
     let root = std::env::var("CARGO_MANIFEST_DIR").unwrap();
     println!("cargo:rerun-if-env-changed=PROFILE_LIBRARIES");

@@ -1,12 +1,12 @@
 #!/usr/bin/env python3
-"""Brings this repository's own definitions and lemmas to the spelling of today's Rattle: words in snake case.
+"""Brings this repository's own definitions and lemmas to the spelling of today's Rattle: words in snake case, no dots.
 
 usage: tools/respell.py [FOLDER]
 
-It was run once, right after the kit's port.py, which had respelled only some of them; a second run changes nothing. A
-name that has a dash and is defined, bound or imported under another name in one of the .antt files gets underscores. In
-code and clauses every such word is turned, in comments and pages only what stands in backticks. Words that a file
-imports from the kit stay, and so do the names that Rattle makes for proofs.
+It was run once, right after the kit's port.py, which had respelled only some of them. A name that has a dash or a dot
+(A·text) and is defined, bound or imported under another name in one of the .antt files gets underscores. In code and
+clauses every such word is turned, in comments and pages only what stands in backticks. Words that a file imports from
+the kit stay, and so do the names that Rattle makes for proofs.
 """
 
 import collections
@@ -35,7 +35,7 @@ def respelled(name):
         return APART[name]
     if re.match(r"In-[a-z]", name):
         return "In" + "".join(word[:1].upper() + word[1:] for word in name[3:].split("-"))
-    return name.replace("-", "_")
+    return re.sub("[-·]", "_", name)
 
 
 def sources(root):
@@ -78,7 +78,7 @@ def names(texts):
             code = re.sub(r"--[^\n]*", "", text)
             for form in DEFINED:
                 for found in re.findall(form, code):
-                    own |= {it for it in found.split() if "-" in it.strip("-")}
+                    own |= {it for it in found.split() if re.search(r"[^-·◌][-·]+[^-·◌]", it)}
     return {it for it in own if not RATTLES.match(it)}
 
 

@@ -36,7 +36,7 @@ fn uses(file: &str) -> Vec<(String, Vec<String>)> {
         let path = line.replacen(".specs", "", 1);
         let name = path.split('.').find(|part| part.starts_with(|first: char| first.is_ascii_uppercase())).unwrap();
         let used = format!("{layer}/{}", name.split(' ').next().unwrap());
-        if !line.contains(".declared.") && !beside_code(&used) {
+        if is_crate(layer) && !line.contains(".declared.") && !beside_code(&used) {
             let names = line.split_once('{').map_or("", |(_, names)| names.trim_end_matches('}'));
             found.push((used, names.split(", ").map(|name| name.split(' ').next().unwrap().to_string()).collect()));
         }

@@ -2,7 +2,7 @@
 -- (Rows), which has the source rules' result (Memories); the customer's wording follows from the equality.
 use mathlib.Core.Path.{◌≡◌, refl, sym, ◌∙◌, ap, subst}
 use mathlib.Core.Logic.{◌⊎◌, inl, inr, ◌↔◌}
-use Prim.Native.Nat.{ℕ, ◌+◌, ◌*◌, ◌-◌, ◌≤◌}
+use Prim.Native.Nat.{ℕ, ◌-◌, ◌≤◌}
 use native.Mathlib.Omega.{arith}
 use mathlib.Core.List.{List}
 use lib.IntN.{ℤ}
@@ -12,7 +12,6 @@ use Rattle.base.specs.Acts.{ok, ended}
 use Rattle.base.specs.Answers.{Answer, gives, and_then, settle}
 use Rattle.base.specs.Ends.{Fault, End, fault, Result, Ran, ran, report}
 use Rattle.base.proofs.Answers.{gives_one}
-use Rattle.word.specs.Sums.{SumRule}
 use Rattle.text.specs.Syntax.{Command}
 use Rattle.text.specs.Reading.{read_text}
 use Rattle.text.specs.Encoding.{Bytes, Within}
@@ -26,7 +25,7 @@ use Rattle.record.specs.Bytes.{assembly_kind, code_bytes}
 use Rattle.record.proofs.Written.{whole_written, written}
 use Rattle.machine.specs.Machine.{Machine, fresh, run}
 use Rattle.machine.specs.Memories.{Assembly, assembly, machine_cells}
-use Rattle.machine.specs.Calls.{machine_run, assembly_tests, assembly_run, run_assembly}
+use Rattle.machine.specs.Calls.{assembly_tests, assembly_run, run_assembly}
 use Rattle.machine.proofs.Inside.{fresh_inside}
 use Rattle.compile.specs.Compilation.{ccomp}
 use Rattle.compile.specs.Table.{to_m_prog, table}
@@ -36,7 +35,7 @@ use Rattle.compile.proofs.Codes.{codes}
 use Rattle.fitting.specs.Loading.{loaded}
 use Rattle.fitting.specs.Rows.{four_calls, Lent}
 use Rattle.fitting.specs.Simulation.{seen}
-use Rattle.fitting.specs.Demand3.{Ready, MachineEnds, RulesEnd, Alike, Demand3, Fitted, AssemblyFitted}
+use Rattle.fitting.specs.Demand3.{Ready, MachineEnds, RulesEnd, Demand3, Fitted, AssemblyFitted}
 use Rattle.fitting.specs.Demand3.{RowsFitted, OneMark}
 use Rattle.fitting.proofs.Memories.{assembled, translated}
 use Rattle.fitting.proofs.NeverOut.{rules_never_out}

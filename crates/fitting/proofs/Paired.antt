@@ -9,7 +9,7 @@ use mathlib.Core.Bool.{true}
 use mathlib.Core.List.{List}
 use lib.Dec.{leb}
 use lib.IntN.{ℤ, pos}
-use lib.ListN.{length, take, replicate, length-replicate}
+use lib.ListN.{length, take, length-replicate}
 use lib.Seq.{take_all}
 use borrow.Author.Tests.{eq-eqb, eqb-true, ne_eqb, le-leb, leb-true}
 use Rattle.base.specs.Answers.{Answer, gives, refused, and_then}

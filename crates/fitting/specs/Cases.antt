@@ -12,7 +12,7 @@ use Rattle.source.specs.Rules.{Store}
 use Rattle.source.specs.Calls.{run_source}
 use Rattle.source.specs.Cases.{zeros, sevens}
 use Rattle.record.specs.Cases.{five}
-use Rattle.record.specs.Records.{AssemblyCode, LOADI, LOAD, ADD, STORE, JMP, JMPLESS, JMPGE, variable}
+use Rattle.record.specs.Records.{AssemblyCode, LOADI, LOAD, ADD, STORE, JMP, JMPGE, variable}
 use Rattle.machine.specs.Cases.{memory}
 use Rattle.compile.specs.Compilation.{ccomp}
 use Rattle.compile.specs.Table.{table}

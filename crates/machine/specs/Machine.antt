@@ -5,7 +5,7 @@ use Rattle.std.proofs.Math.Option.{Option, none, some}
 use Rattle.std.proofs.Math.ListN.{get_elem?}
 use Rattle.std.specs.Int.Signed.{lt_z}
 use Rattle.base.specs.Acts.{Outcome, ok, ended, Act, ◌>>=◌, ◌>>◌}
-use Rattle.base.specs.Ends.{Fault, short, full, out_of_range, astray, End, done, spent, fault, Result, result}
+use Rattle.base.specs.Ends.{Fault, short, full, out_of_range, astray, done, spent, fault, Result, result}
 use Rattle.word.specs.Sums.{Sum, fits, out, SumRule}
 use Rattle.word.specs.Targets.{target}
 use Rattle.word.specs.declared.Target.{Target}

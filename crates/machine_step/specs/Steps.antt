@@ -1,6 +1,6 @@
 -- What records and steps give, and what they need: records that touch only the stack, over either layout; then the
 -- steps of each executor.
-use Rattle.std.specs.Prelude.{◌≡◌, ℕ, ◌+◌, ◌-◌, ◌*◌, ◌≤◌, ◌<◌, ◌^◌, Bool, List, ℤ, length, if◌then◌else◌}
+use Rattle.std.specs.Prelude.{◌≡◌, ℕ, ◌+◌, ◌*◌, ◌≤◌, ◌<◌, ◌^◌, Bool, List, ℤ, length, if◌then◌else◌}
 use Rattle.std.proofs.Math.Option.{some}
 use Rattle.base.specs.Answers.{gives}
 use Rattle.record.specs.Records.{Record, AssemblyCode, MachineCode, JMPLESS, JMPGE}

@@ -8,7 +8,6 @@ use lib.Dec.{leb}
 use lib.ListN.{length, take, length-take}
 use lib.Seq.{take_all}
 use borrow.Author.Tests.{leb-true, leb-false, lt-leb}
-use Rattle.base.specs.Answers.{refused, unless◌refuse◌at◌else◌}
 use Rattle.text.specs.Reading.{read_text}
 use Rattle.print.specs.Printing.{refusal_line, answer_lines, shown}
 use Rattle.print.specs.Claims.{FirstBytes}

@@ -1,6 +1,6 @@
 -- What is printed for a text, from what its calls gave and left.
 use mathlib.Core.Path.{◌≡◌, refl, sym, ◌∙◌, ap}
-use Prim.Native.Nat.{ℕ, ◌+◌, ◌*◌, ◌≤◌}
+use Prim.Native.Nat.{ℕ, ◌*◌, ◌≤◌}
 use native.Mathlib.Omega.{arith}
 use mathlib.Core.List.{List, ◌++◌}
 use lib.ListN.{length, take}
@@ -11,7 +11,7 @@ use Rattle.base.proofs.Settled.{not_both, needed}
 use Rattle.text.specs.Syntax.{Command}
 use Rattle.text.specs.Reading.{read_text}
 use Rattle.text.specs.Encoding.{Bytes}
-use Rattle.text.specs.Sizes.{records, depth, cells, sizes}
+use Rattle.text.specs.Sizes.{records, cells, sizes}
 use Rattle.text.specs.declared.Sizes.{Sizes}
 use Rattle.text.specs.Calls.{read_call}
 use Rattle.text.proofs.Accepted.{accepted}

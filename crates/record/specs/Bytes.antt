@@ -1,5 +1,5 @@
 -- The bytes of records of both kinds, and the test of code (document 01, "Records" and refusals 9 and 10).
-use Rattle.std.specs.Prelude.{ℕ, zero, suc, ◌+◌, ◌*◌, ◌/◌, ◌%◌, Bool, true, false, ◌&&◌, List, [], ◌∷◌, ◌++◌, eqb}
+use Rattle.std.specs.Prelude.{ℕ, zero, suc, ◌+◌, ◌*◌, ◌/◌, ◌%◌, Bool, false, ◌&&◌, List, [], ◌∷◌, ◌++◌, eqb}
 use Rattle.std.specs.Prelude.{leb, ℤ, pos, negsuc, length, drop, get_or, if◌then◌else◌}
 use Rattle.std.proofs.Math.Option.{Option, none, some}
 use Rattle.base.specs.Answers.{Answer, gives, refused, and_then}

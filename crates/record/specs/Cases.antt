@@ -1,6 +1,6 @@
 -- One record of each operation as its five bytes, in both kinds, and the tests of code at their limits (document 01,
 -- "Records" and refusals 9 and 10). negsuc k is −1 − k.
-use Rattle.std.specs.Prelude.{◌≡◌, Bool, true, false, ℕ, List, [], ◌∷◌, ◌++◌, map, pos, negsuc, replicate}
+use Rattle.std.specs.Prelude.{◌≡◌, true, false, ℕ, List, [], ◌∷◌, ◌++◌, map, pos, negsuc, replicate}
 use Rattle.base.specs.Answers.{gives, refused}
 use Rattle.record.specs.Records.{Record, LOADI, LOAD, ADD, STORE, JMP, JMPLESS, JMPGE, variable, address}
 use Rattle.record.specs.Bytes.{Kind, assembly_kind, machine_kind, record_bytes, records_of, whole_records}

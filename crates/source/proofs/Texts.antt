@@ -17,7 +17,7 @@ use Rattle.text.specs.Reading.{read_text}
 use Rattle.source.specs.BigStep.{BigStep}
 use Rattle.source.specs.Calls.{sums, run_source}
 use Rattle.source.specs.Claims.{BringsPast, Published, PublishedTexts}
-use Rattle.source.specs.Rules.{Early, State, Store, Outcomes, start, exec, end_of, result_of, run_rules}
+use Rattle.source.specs.Rules.{Early, State, Store, Outcomes, start, exec, end_of, result_of}
 use Rattle.source.proofs.Calls.{source_runs}
 use Rattle.source.proofs.SumRules.{same_outcome, same_condition}
 use Rattle.source.proofs.Equivalence.{published_by}

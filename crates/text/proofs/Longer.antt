@@ -9,7 +9,7 @@ use lib.Dec.{leb}
 use lib.ListN.{length, get_or, length-append, get_or-append}
 use borrow.Author.Tests.{leb-true, le-leb}
 use Rattle.std.specs.Prelude.{if◌then◌else◌}
-use Rattle.base.specs.Acts.{Outcome, ok, ended, then', ◌>>=◌, ◌>>◌, give}
+use Rattle.base.specs.Acts.{Outcome, ok, ended, then', ◌>>◌, give}
 use Rattle.base.specs.Answers.{Refusal, refusal}
 use Rattle.word.specs.Numbers.{number_at}
 use Rattle.text.specs.Syntax.{Width, four_bytes, one_byte}

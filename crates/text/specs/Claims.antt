@@ -3,7 +3,7 @@
 -- that command alone. Every text has exactly one answer: its command, or a refusal of 1 to 6 whose place is in the
 -- text.
 use Rattle.std.specs.Prelude.{◌≡◌, ◌⊎◌, ◌↔◌, ℕ, ◌≤◌, List, length}
-use Rattle.base.specs.Answers.{Answer, gives, refused}
+use Rattle.base.specs.Answers.{gives, refused}
 use Rattle.text.specs.Syntax.{Command}
 use Rattle.text.specs.Reading.{read_text}
 use Rattle.text.specs.Encoding.{Bytes, command_bytes, nesting, Within}

@@ -1,7 +1,6 @@
 -- `test` makes the tests of going back in their order: each return is one of the laws of `Tests`.
 use mathlib.Core.Path.{sym, ◌∙◌}
 use borrow.Author.Rules.{rules}
-use borrow.Author.Tests.{not-true, not-false}
 use Rattle.compile_back.proofs.Tests.{tabled, not_whole, no_bytes, no_table, mismatched, no_room, accepts}
 use Rattle.compile_back.proofs.test.Statement.{statement}
 use Rattle.compile_back.proofs.test.Tie as tie

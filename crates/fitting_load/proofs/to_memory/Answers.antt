@@ -1,7 +1,5 @@
 -- A variable's value goes to its address, a cell of the memory, and past an entry of 0 the memory stays.
-use Rattle.std.proofs.Common.{◌≡◌, pos, get_or, arith, rules}
-use mir.Syntax.{w32}
-use mir.Val.{to_z, of_z}
+use Rattle.std.proofs.Common.{arith, rules}
 use Rattle.fitting_load.proofs.Cells.{filled_start, filled_past, filled_put, filled_all}
 use Rattle.fitting_load.proofs.to_memory.Goals as goal
 

@@ -1,7 +1,6 @@
 -- `test` makes the call's tests in their order: each return is one of the laws of `Tests`.
 use mathlib.Core.Path.{sym, ◌∙◌}
 use borrow.Author.Rules.{rules}
-use borrow.Author.Tests.{not-true, not-false}
 use Rattle.base.proofs.Answers.{answers}
 use Rattle.fitting.proofs.Calls.{names_few}
 use Rattle.fitting_paired.proofs.Tests.{not_whole, no_names, with_names}

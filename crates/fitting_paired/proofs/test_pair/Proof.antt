@@ -1,7 +1,6 @@
 -- `test_pair` makes its tests in their order: each return is one of the laws of `Tests`.
 use mathlib.Core.Path.{sym, ◌∙◌}
 use borrow.Author.Rules.{rules}
-use borrow.Author.Tests.{not-true, not-false}
 use Rattle.fitting_paired.proofs.Tests.{no_record, counted_records, passes, disagree, too_deep}
 use Rattle.fitting_paired.proofs.Tests.{all_passed}
 use Rattle.fitting_paired.proofs.test_pair.Statement.{statement}

@@ -5,7 +5,6 @@ use native.Mathlib.Omega.{arith}
 use borrow.Author.Rules.{rules}
 use Rattle.base.proofs.Rows.{ends_there, goes_on, is_last}
 use Rattle.text.specs.Code.{sizes_answer}
-use Rattle.machine.specs.Memories.{Assembly}
 use Rattle.compile.proofs.Calls.{assemble_room}
 use Rattle.fitting.specs.Rows as Rows
 use Rattle.fitting.specs.Rows.{AssemblyLent, assembly_buffers}

@@ -1,7 +1,6 @@
 -- `test` makes the preview's tests in their order: each return is one of the laws of `Tests`.
 use mathlib.Core.Path.{sym, ◌∙◌}
 use borrow.Author.Rules.{rules}
-use borrow.Author.Tests.{not-true, not-false}
 use Rattle.base.proofs.Answers.{answers}
 use Rattle.fitting_preview.proofs.Tests.{not_whole, no_names, with_names}
 use Rattle.fitting_preview.proofs.test.Statement.{statement}

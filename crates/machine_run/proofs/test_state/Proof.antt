@@ -2,7 +2,6 @@
 use mathlib.Core.Path.{sym, ◌∙◌}
 use mathlib.Core.Bool.{true, false}
 use borrow.Author.Rules.{rules}
-use borrow.Author.Tests.{not-true, not-false}
 use Rattle.machine.proofs.Calls.{still_refused, then_fifteen}
 use Rattle.machine_run.proofs.test_state.Statement.{statement}
 use Rattle.machine_run.proofs.test_state.Tie as tie

@@ -1,6 +1,5 @@
 -- The answer that was matched is packed.
 use mathlib.Core.Path.{sym, ap, ◌∙◌}
-use Prim.Native.Nat.{◌+◌, ◌*◌}
 use borrow.Author.Rules.{rules}
 use Rattle.text.specs.Code.{sizes_answer}
 use Rattle.pod_packing.specs.Packing.{packed_sizes}

@@ -1,5 +1,5 @@
 -- `render` meets its contract: a refused text prints its refusal, an accepted one its lines.
-use mathlib.Core.Path.{◌≡◌, refl, sym, ap, ◌∙◌}
+use mathlib.Core.Path.{refl, sym, ap, ◌∙◌}
 use native.Mathlib.Omega.{arith}
 use borrow.Author.Rules.{rules}
 use Rattle.text.specs.Code.{sizes_answer}

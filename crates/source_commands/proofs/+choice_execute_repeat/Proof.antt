@@ -23,7 +23,7 @@ use Rattle.source_commands.specs.declared.Progress.{Progress}
 use Rattle.source_commands.proofs.Commands.{skip_is, sequence_ended, choice_ended, first_at, first_stops}
 use Rattle.source_commands.proofs.Commands.{other_at, first_done, else_at, else_is, while_ended, body_at}
 use Rattle.source_commands.proofs.Commands.{while_done, body_stops, turn_spent, turn_again}
-use Rattle.source_commands.proofs.Loops.{Going, begins, second_next, Turning, no_higher, not_true, not_false}
+use Rattle.source_commands.proofs.Loops.{Going, begins, second_next, Turning, no_higher}
 use Rattle.source_commands.proofs.choice.Reads as choice_reads
 use Rattle.source_commands.proofs.choice.Kinds as choice_kinds
 use Rattle.source_commands.proofs.+choice_execute_repeat.Lts-choice as choice_lts
