@@ -10,7 +10,7 @@ use Rattle.text.specs.Reading.{number_due, number, expression_of, expression, co
 use Rattle.text.specs.Reading.{command, all_read, read_text}
 use Rattle.text.specs.Sizes.{expression_records, condition_records, records, expression_depth, condition_depth}
 use Rattle.text.specs.Sizes.{depth, expression_names, condition_names, names, how_many}
-use Rattle.text.specs.Cases.{B·text, C·text, I·text}
+use Rattle.text.specs.Cases.{B_text, C_text, I_text}
 use Rattle.record.specs.Records.{rename}
 use Rattle.record.specs.Bytes.{first_byte, operand as record_operand, code_bytes, operation, name_of, option_map}
 use Rattle.record.specs.Bytes.{is_zero, record_of, in_front, records_from}
@@ -21,28 +21,28 @@ use Rattle.compile.specs.Cases.{Listing, ShortListing, AddressesOfI, BytesOfB, A
 use Rattle.compile.specs.Cases.{CompileDeclines, GoBackDeclines, Agreements}
 
 pub listing : Listing
-unfolding C·text then' give and_then number_of number_at
+unfolding C_text then' give and_then number_of number_at
     expression_byte condition_byte command_byte decline there due pass operand number_due number
     expression_of expression condition_of condition command_of command all_read read_text
     ccomp acomp bcomp
 listing = refl
 
 pub short_listing : ShortListing
-unfolding C·text then' give and_then number_of number_at byte_number
+unfolding C_text then' give and_then number_of number_at byte_number
     expression_byte condition_byte command_byte decline there due pass operand number_due number
     expression_of expression condition_of condition command_of command all_read read_text
     ccomp acomp bcomp
 short_listing = refl
 
 pub addresses_of_I : AddressesOfI
-unfolding I·text then' give and_then number_of number_at
+unfolding I_text then' give and_then number_of number_at
     expression_byte condition_byte command_byte decline there due pass operand number_due number
     expression_of expression condition_of condition command_of command all_read read_text
     ccomp acomp bcomp rename mentions member once addr_of entries
 addresses_of_I = (refl, refl)
 
 pub bytes_of_B : BytesOfB
-unfolding B·text then' give and_then settle number_of number_at bits_of bytes_of
+unfolding B_text then' give and_then settle number_of number_at bits_of bytes_of
     expression_byte condition_byte command_byte decline there due pass operand number_due number
     expression_of expression condition_of condition command_of command all_read read_text
     expression_records condition_records records expression_depth condition_depth depth
@@ -72,7 +72,7 @@ agreements = record {
 }
 
 pub assemble_declines : AssembleDeclines
-unfolding B·text then' give and_then settle number_of number_at
+unfolding B_text then' give and_then settle number_of number_at
     expression_byte condition_byte command_byte decline there due pass operand number_due number
     expression_of expression condition_of condition command_of command all_read read_text
     expression_records condition_records records assemble_tests assemble
@@ -83,7 +83,7 @@ assemble_declines = record {
 }
 
 pub compile_declines : CompileDeclines
-unfolding B·text then' give and_then settle number_of number_at
+unfolding B_text then' give and_then settle number_of number_at
     expression_byte condition_byte command_byte decline there due pass operand number_due number
     expression_of expression condition_of condition command_of command all_read read_text
     expression_records condition_records records compile_tests compile

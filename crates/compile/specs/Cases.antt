@@ -5,7 +5,7 @@ use Rattle.std.specs.Prelude.{◌≡◌, true, false, ℕ, List, [], ◌∷◌, 
 use Rattle.base.specs.Answers.{Answer, gives, refused, and_then}
 use Rattle.text.specs.Reading.{read_text}
 use Rattle.text.specs.Sizes.{sized}
-use Rattle.text.specs.Cases.{B·text, C·text, C·short, I·text, x64·text}
+use Rattle.text.specs.Cases.{B_text, C_text, C_short, I_text, x64_text}
 use Rattle.record.specs.Records.{AssemblyCode, MachineCode, LOADI, LOAD, ADD, STORE, JMP, JMPGE, variable, address}
 use Rattle.record.specs.Cases.{five}
 use Rattle.compile.specs.Compilation.{ccomp}
@@ -24,19 +24,19 @@ table_of text = and_then (read_text text) (λ c. gives (table (ccomp c)))
 
 -- "8 records, JMPGE 5, JMP −8": a jump counts from the record after it.
 abbrev pub Listing : Type 0
-Listing = assembly_of C·text ≡ gives (
+Listing = assembly_of C_text ≡ gives (
     LOAD (variable 0) ∷ LOADI (pos 3) ∷ JMPGE (pos 5)
     ∷ LOAD (variable 0) ∷ LOADI (pos 1) ∷ ADD ∷ STORE (variable 0) ∷ JMP (negsuc 7) ∷ [])
 
 -- "Both compile to the same LOADI" (document 02, W1): C with one-byte constants has C's records.
 abbrev pub ShortListing : Type 0
-ShortListing = assembly_of C·short ≡ assembly_of C·text
+ShortListing = assembly_of C_short ≡ assembly_of C_text
 
 -- "x0 := x1; x2 := x1: addresses x2 1, x1 2, x0 3": by last mention.
 abbrev pub AddressesOfI : Type 0
-AddressesOfI = (machine_of I·text ≡ gives (
+AddressesOfI = (machine_of I_text ≡ gives (
     LOAD (address 2) ∷ STORE (address 3) ∷ LOAD (address 2) ∷ STORE (address 1) ∷ []))
-    × (and_then (table_of I·text) (λ t. gives (take 4 t)) ≡ gives (3 ∷ 2 ∷ 1 ∷ 0 ∷ []))
+    × (and_then (table_of I_text) (λ t. gives (take 4 t)) ≡ gives (3 ∷ 2 ∷ 1 ∷ 0 ∷ []))
 
 -- 14 (document 02, W6), of machine records and n.
 pub record Agreements : Type 0 where
@@ -57,24 +57,24 @@ pub record Agreements : Type 0 where
 -- ---- The bytes of B, whole
 
 -- LOAD 1, LOADI 5, ADD, STORE 0
-abbrev pub B·assembly : List ℕ
-B·assembly =
+abbrev pub B_assembly : List ℕ
+B_assembly =
     0x41 ∷ 1 ∷ 0 ∷ 0 ∷ 0
     ∷ 0x40 ∷ 5 ∷ 0 ∷ 0 ∷ 0
     ∷ 0x42 ∷ 0 ∷ 0 ∷ 0 ∷ 0
     ∷ 0x43 ∷ 0 ∷ 0 ∷ 0 ∷ 0 ∷ []
 
 -- MLOAD 2, MLOADI 5, MADD, MSTORE 1
-abbrev pub B·machine : List ℕ
-B·machine =
+abbrev pub B_machine : List ℕ
+B_machine =
     0x51 ∷ 2 ∷ 0 ∷ 0 ∷ 0
     ∷ 0x50 ∷ 5 ∷ 0 ∷ 0 ∷ 0
     ∷ 0x52 ∷ 0 ∷ 0 ∷ 0 ∷ 0
     ∷ 0x53 ∷ 1 ∷ 0 ∷ 0 ∷ 0 ∷ []
 
 -- x0 has address 1 and x1 address 2; "0 if unnamed"
-abbrev pub B·table : List ℕ
-B·table = 1 ∷ 2 ∷ replicate 62 0
+abbrev pub B_table : List ℕ
+B_table = 1 ∷ 2 ∷ replicate 62 0
 
 -- what is lent: an output of some bytes, each EE; with it a table of some bytes, each DD
 abbrev pub output : ℕ → List ℕ
@@ -88,15 +88,15 @@ lent code t = code_and_table (output code) (replicate t 0xdd)
 
 -- 4 records, D 2 and n 2, and the bytes.
 pub record BytesOfB : Type 0 where
-  pub assembled : assemble B·text (output 20) ≡ (gives (sized 4 2 2), B·assembly)
-  pub compiled : compile B·text (lent 20 64) ≡ (gives (sized 4 2 2), code_and_table B·machine B·table)
+  pub assembled : assemble B_text (output 20) ≡ (gives (sized 4 2 2), B_assembly)
+  pub compiled : compile B_text (lent 20 64) ≡ (gives (sized 4 2 2), code_and_table B_machine B_table)
   -- going back gives the record count, and the assembly
-  pub back : go_back B·machine B·table (output 20) ≡ (gives 4, B·assembly)
+  pub back : go_back B_machine B_table (output 20) ≡ (gives 4, B_assembly)
   -- "bytes after the last record keep their values": outputs of 22 bytes
-  pub assembled_in_22 : assemble B·text (output 22) ≡ (gives (sized 4 2 2), B·assembly ++ output 2)
-  pub compiled_in_22 : compile B·text (lent 22 64)
-      ≡ (gives (sized 4 2 2), code_and_table (B·machine ++ output 2) B·table)
-  pub back_in_22 : go_back B·machine B·table (output 22) ≡ (gives 4, B·assembly ++ output 2)
+  pub assembled_in_22 : assemble B_text (output 22) ≡ (gives (sized 4 2 2), B_assembly ++ output 2)
+  pub compiled_in_22 : compile B_text (lent 22 64)
+      ≡ (gives (sized 4 2 2), code_and_table (B_machine ++ output 2) B_table)
+  pub back_in_22 : go_back B_machine B_table (output 22) ≡ (gives 4, B_assembly ++ output 2)
 
 -- ---- Where the calls decline: number and place, and what is lent as it was. Where two refusals are due, the first in
 -- order is given
@@ -104,25 +104,25 @@ pub record BytesOfB : Type 0 where
 -- assemble: 6, reading, 7.
 pub record AssembleDeclines : Type 0 where
   -- 7: B with 19 bytes
-  pub seven : assemble B·text (output 19) ≡ (refused 7 0, output 19)
+  pub seven : assemble B_text (output 19) ≡ (refused 7 0, output 19)
   -- 6, and reading's 2: 4,097 bytes `7F`
   pub six_reading : assemble (replicate 4097 0x7f) (output 20) ≡ (refused 6 0, output 20)
   -- reading's 3, and 7: `01 40 11 00`, and no output
-  pub reading_seven : assemble x64·text [] ≡ (refused 3 1, [])
+  pub reading_seven : assemble x64_text [] ≡ (refused 3 1, [])
 
 -- compile: 6, reading, 8, 7.
 pub record CompileDeclines : Type 0 where
   -- 8: a table of 63 bytes, and of 65
-  pub eight : compile B·text (lent 20 63) ≡ (refused 8 0, lent 20 63)
-  pub eight_longer : compile B·text (lent 20 65) ≡ (refused 8 0, lent 20 65)
+  pub eight : compile B_text (lent 20 63) ≡ (refused 8 0, lent 20 63)
+  pub eight_longer : compile B_text (lent 20 65) ≡ (refused 8 0, lent 20 65)
   -- 7: B with 19 bytes
-  pub seven : compile B·text (lent 19 64) ≡ (refused 7 0, lent 19 64)
+  pub seven : compile B_text (lent 19 64) ≡ (refused 7 0, lent 19 64)
   -- 6, and reading's 2: 4,097 bytes `7F`
   pub six_reading : compile (replicate 4097 0x7f) (lent 20 64) ≡ (refused 6 0, lent 20 64)
   -- reading's 3, and 8: `01 40 11 00`, and a table of 63 bytes
-  pub reading_eight : compile x64·text (lent 20 63) ≡ (refused 3 1, lent 20 63)
+  pub reading_eight : compile x64_text (lent 20 63) ≡ (refused 3 1, lent 20 63)
   -- 8, and 7: B with a table of 63 bytes and with 19 bytes
-  pub eight_seven : compile B·text (lent 19 63) ≡ (refused 8 0, lent 19 63)
+  pub eight_seven : compile B_text (lent 19 63) ≡ (refused 8 0, lent 19 63)
 
 -- two entries 1, and some of 0
 abbrev pub two_ones : ℕ → List ℕ
@@ -131,27 +131,27 @@ two_ones k = 1 ∷ 1 ∷ replicate k 0
 -- go_back: 9, 8, 12, 10, 7. n is the table's, and B's is 2.
 pub record GoBackDeclines : Type 0 where
   -- 9: 4 bytes of code
-  pub nine : go_back (replicate 4 0x50) B·table (output 20) ≡ (refused 9 0, output 20)
+  pub nine : go_back (replicate 4 0x50) B_table (output 20) ≡ (refused 9 0, output 20)
   -- 8: a table of 63 bytes, and of 65
-  pub eight : go_back B·machine (1 ∷ 2 ∷ replicate 61 0) (output 20) ≡ (refused 8 0, output 20)
-  pub eight_longer : go_back B·machine (1 ∷ 2 ∷ replicate 63 0) (output 20) ≡ (refused 8 0, output 20)
+  pub eight : go_back B_machine (1 ∷ 2 ∷ replicate 61 0) (output 20) ≡ (refused 8 0, output 20)
+  pub eight_longer : go_back B_machine (1 ∷ 2 ∷ replicate 63 0) (output 20) ≡ (refused 8 0, output 20)
   -- 12: two entries 1; an entry 3 where n is 2; a table of zeros has n 0, and is not refused
-  pub twelve : go_back B·machine (two_ones 62) (output 20) ≡ (refused 12 0, output 20)
-  pub twelve_gap : go_back B·machine (1 ∷ 3 ∷ replicate 62 0) (output 20) ≡ (refused 12 0, output 20)
+  pub twelve : go_back B_machine (two_ones 62) (output 20) ≡ (refused 12 0, output 20)
+  pub twelve_gap : go_back B_machine (1 ∷ 3 ∷ replicate 62 0) (output 20) ≡ (refused 12 0, output 20)
   pub not_twelve : go_back (five 0x50 0) (replicate 64 0) (output 5) ≡ (gives 1, five 0x40 0)
   -- 10: `52 01 00 00 00`; the addresses 0 and n + 1; after MLOADI 0, at index 1
-  pub ten : go_back (five 0x52 1) B·table (output 20) ≡ (refused 10 0, output 20)
-  pub ten_address_0 : go_back (five 0x51 0) B·table (output 20) ≡ (refused 10 0, output 20)
-  pub ten_address_3 : go_back (five 0x51 3) B·table (output 20) ≡ (refused 10 0, output 20)
-  pub ten_second : go_back (five 0x50 0 ++ (five 0x52 1 ++ five 0x51 0)) B·table (output 20)
+  pub ten : go_back (five 0x52 1) B_table (output 20) ≡ (refused 10 0, output 20)
+  pub ten_address_0 : go_back (five 0x51 0) B_table (output 20) ≡ (refused 10 0, output 20)
+  pub ten_address_3 : go_back (five 0x51 3) B_table (output 20) ≡ (refused 10 0, output 20)
+  pub ten_second : go_back (five 0x50 0 ++ (five 0x52 1 ++ five 0x51 0)) B_table (output 20)
       ≡ (refused 10 1, output 20)
   -- 7: B's machine code with 19 bytes
-  pub seven : go_back B·machine B·table (output 19) ≡ (refused 7 0, output 19)
+  pub seven : go_back B_machine B_table (output 19) ≡ (refused 7 0, output 19)
   -- 9, and 8: 4 bytes of code, and a table of 63 bytes
   pub nine_eight : go_back (replicate 4 0x50) (1 ∷ 2 ∷ replicate 61 0) (output 20) ≡ (refused 9 0, output 20)
   -- 8, and 12: a table of 63 bytes with two entries 1
-  pub eight_twelve : go_back B·machine (two_ones 61) (output 20) ≡ (refused 8 0, output 20)
+  pub eight_twelve : go_back B_machine (two_ones 61) (output 20) ≡ (refused 8 0, output 20)
   -- 12, and 10: two entries 1, and `52 01 00 00 00`
   pub twelve_ten : go_back (five 0x52 1) (two_ones 62) (output 20) ≡ (refused 12 0, output 20)
   -- 10, and 7: `52 01 00 00 00`, and 4 bytes
-  pub ten_seven : go_back (five 0x52 1) B·table (output 4) ≡ (refused 10 0, output 4)
+  pub ten_seven : go_back (five 0x52 1) B_table (output 4) ≡ (refused 10 0, output 4)

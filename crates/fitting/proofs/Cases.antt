@@ -13,8 +13,8 @@ use Rattle.text.specs.Reading.{number_due, number, expression_of, expression, co
 use Rattle.text.specs.Reading.{command, all_read, read_text}
 use Rattle.text.specs.Sizes.{expression_records, condition_records, records, expression_depth, condition_depth}
 use Rattle.text.specs.Sizes.{depth, expression_names, condition_names, names, how_many}
-use Rattle.text.specs.Cases.{A·text, B·text, C·text, D·text, E·text, F·text, G·text, H·text, I·text, J·text}
-use Rattle.text.specs.Cases.{K·text}
+use Rattle.text.specs.Cases.{A_text, B_text, C_text, D_text, E_text, F_text, G_text, H_text, I_text, J_text}
+use Rattle.text.specs.Cases.{K_text}
 use Rattle.source.specs.Rules.{charge, tick, raise, lower, cell, assign, in_range as source_in_range, add, value}
 use Rattle.source.specs.Rules.{truth, loop, exec, end_of, result_of}
 use Rattle.source.specs.Calls.{source_tests, run_source}
@@ -41,7 +41,7 @@ memory_of_I = refl
 
 pub profiles : Profiles
 unfolding cases measured by_rules by_machine zeros
-    A·text B·text C·text D·text E·text F·text G·text H·text I·text J·text K·text
+    A_text B_text C_text D_text E_text F_text G_text H_text I_text J_text K_text
     then' give and_then settle number_of number_at bits_of bytes_of clamped holding within target
     expression_byte condition_byte command_byte decline there due pass operand number_due number
     expression_of expression condition_of condition command_of command all_read read_text

@@ -6,8 +6,8 @@ use Rattle.base.specs.Ends.{End, done, spent, fault, short, full, astray, Ran, r
 use Rattle.text.specs.Syntax.{Command}
 use Rattle.text.specs.Reading.{read_text}
 use Rattle.text.specs.Sizes.{records, depth, cells}
-use Rattle.text.specs.Cases.{A·text, B·text, C·text, D·text, E·text, F·text, G·text, H·text, I·text, J·text}
-use Rattle.text.specs.Cases.{K·text}
+use Rattle.text.specs.Cases.{A_text, B_text, C_text, D_text, E_text, F_text, G_text, H_text, I_text, J_text}
+use Rattle.text.specs.Cases.{K_text}
 use Rattle.source.specs.Rules.{Store}
 use Rattle.source.specs.Calls.{run_source}
 use Rattle.source.specs.Cases.{zeros, sevens}
@@ -17,7 +17,7 @@ use Rattle.machine.specs.Cases.{memory}
 use Rattle.compile.specs.Compilation.{ccomp}
 use Rattle.compile.specs.Table.{table}
 use Rattle.compile.specs.Calls.{Compiled}
-use Rattle.compile.specs.Cases.{B·machine, B·table, two_ones}
+use Rattle.compile.specs.Cases.{B_machine, B_table, two_ones}
 use Rattle.fitting.specs.Loading.{loaded}
 use Rattle.fitting.specs.Calls.{load, read_back_call, preview_machine}
 use Rattle.fitting.specs.Rows.{four_calls}
@@ -53,61 +53,61 @@ case text b P d n a e k mark x = record {
 
 -- ---- The records
 
-abbrev pub B·records : AssemblyCode
-B·records = LOAD (variable 1) ∷ LOADI (pos 5) ∷ ADD ∷ STORE (variable 0) ∷ []
+abbrev pub B_records : AssemblyCode
+B_records = LOAD (variable 1) ∷ LOADI (pos 5) ∷ ADD ∷ STORE (variable 0) ∷ []
 
 -- "8 records, JMPGE 5, JMP −8"
-abbrev pub C·records : AssemblyCode
-C·records =
+abbrev pub C_records : AssemblyCode
+C_records =
     LOAD (variable 0) ∷ LOADI (pos 3) ∷ JMPGE (pos 5)
     ∷ LOAD (variable 0) ∷ LOADI (pos 1) ∷ ADD ∷ STORE (variable 0) ∷ JMP (negsuc 7) ∷ []
 
-abbrev pub D·records : AssemblyCode
-D·records = JMP (pos 2) ∷ LOADI (pos 1) ∷ STORE (variable 0) ∷ []
+abbrev pub D_records : AssemblyCode
+D_records = JMP (pos 2) ∷ LOADI (pos 1) ∷ STORE (variable 0) ∷ []
 
-abbrev pub E·records : AssemblyCode
-E·records = JMP (pos 1) ∷ JMP (pos 2) ∷ LOADI (pos 1) ∷ STORE (variable 0) ∷ []
+abbrev pub E_records : AssemblyCode
+E_records = JMP (pos 1) ∷ JMP (pos 2) ∷ LOADI (pos 1) ∷ STORE (variable 0) ∷ []
 
-abbrev pub F·records : AssemblyCode
-F·records =
+abbrev pub F_records : AssemblyCode
+F_records =
     JMP (pos 6) ∷ LOADI (pos 2147483647) ∷ LOADI (pos 1) ∷ ADD ∷ LOADI (pos 0) ∷ JMPGE (pos 1) ∷ JMP (pos 0) ∷ []
 
-abbrev pub G·records : AssemblyCode
-G·records =
+abbrev pub G_records : AssemblyCode
+G_records =
     LOADI (pos 2147483647) ∷ LOADI (pos 1) ∷ ADD ∷ LOADI (pos 0) ∷ JMPGE (pos 2) ∷ JMP (pos 1) ∷ JMP (pos 0) ∷ []
 
-abbrev pub H·records : AssemblyCode
-H·records = LOADI (negsuc 2147483647) ∷ LOADI (pos 2147483647) ∷ ADD ∷ STORE (variable 0) ∷ []
+abbrev pub H_records : AssemblyCode
+H_records = LOADI (negsuc 2147483647) ∷ LOADI (pos 2147483647) ∷ ADD ∷ STORE (variable 0) ∷ []
 
-abbrev pub I·records : AssemblyCode
-I·records = LOAD (variable 1) ∷ STORE (variable 0) ∷ LOAD (variable 1) ∷ STORE (variable 2) ∷ []
+abbrev pub I_records : AssemblyCode
+I_records = LOAD (variable 1) ∷ STORE (variable 0) ∷ LOAD (variable 1) ∷ STORE (variable 2) ∷ []
 
-abbrev pub J·records : AssemblyCode
-J·records = JMP (negsuc 0) ∷ []
+abbrev pub J_records : AssemblyCode
+J_records = JMP (negsuc 0) ∷ []
 
-abbrev pub K·records : AssemblyCode
-K·records = LOADI (pos 1) ∷ LOADI (pos 1) ∷ ADD ∷ LOADI (pos 1) ∷ ADD ∷ STORE (variable 0) ∷ []
+abbrev pub K_records : AssemblyCode
+K_records = LOADI (pos 1) ∷ LOADI (pos 1) ∷ ADD ∷ LOADI (pos 1) ∷ ADD ∷ STORE (variable 0) ∷ []
 
 -- ---- The table
 
 -- text, budget, records, D, n, addresses of x0, x1 and x2, end, count, mark, x0
 unfoldable pub cases : List Case
 cases =
-    case A·text 1000000 [] 0 0 (0 ∷ 0 ∷ 0 ∷ []) done 0 0 (pos 0)
-    ∷ case B·text 1000000 B·records 2 2 (1 ∷ 2 ∷ 0 ∷ []) done 4 2 (pos 5)
-    ∷ case B·text 4 B·records 2 2 (1 ∷ 2 ∷ 0 ∷ []) done 4 2 (pos 5)
-    ∷ case B·text 3 B·records 2 2 (1 ∷ 2 ∷ 0 ∷ []) spent 3 2 (pos 0)
-    ∷ case C·text 1000000 C·records 2 1 (1 ∷ 0 ∷ 0 ∷ []) done 27 2 (pos 3)
-    ∷ case D·text 1000000 D·records 1 1 (1 ∷ 0 ∷ 0 ∷ []) done 1 0 (pos 0)
-    ∷ case E·text 1000000 E·records 1 1 (1 ∷ 0 ∷ 0 ∷ []) done 3 1 (pos 1)
-    ∷ case F·text 1000000 F·records 2 0 (0 ∷ 0 ∷ 0 ∷ []) done 1 0 (pos 0)
-    ∷ case G·text 1000000 G·records 2 0 (0 ∷ 0 ∷ 0 ∷ []) done 5 2 (pos 0)
-    ∷ case H·text 1000000 H·records 2 1 (1 ∷ 0 ∷ 0 ∷ []) done 4 2 (negsuc 0)
-    ∷ case I·text 1000000 I·records 1 3 (3 ∷ 2 ∷ 1 ∷ []) done 4 1 (pos 0)
-    ∷ case J·text 0 J·records 0 0 (0 ∷ 0 ∷ 0 ∷ []) spent 0 0 (pos 0)
-    ∷ case J·text 1 J·records 0 0 (0 ∷ 0 ∷ 0 ∷ []) spent 1 0 (pos 0)
-    ∷ case J·text 1000 J·records 0 0 (0 ∷ 0 ∷ 0 ∷ []) spent 1000 0 (pos 0)
-    ∷ case K·text 1000000 K·records 2 1 (1 ∷ 0 ∷ 0 ∷ []) done 6 2 (pos 3)
+    case A_text 1000000 [] 0 0 (0 ∷ 0 ∷ 0 ∷ []) done 0 0 (pos 0)
+    ∷ case B_text 1000000 B_records 2 2 (1 ∷ 2 ∷ 0 ∷ []) done 4 2 (pos 5)
+    ∷ case B_text 4 B_records 2 2 (1 ∷ 2 ∷ 0 ∷ []) done 4 2 (pos 5)
+    ∷ case B_text 3 B_records 2 2 (1 ∷ 2 ∷ 0 ∷ []) spent 3 2 (pos 0)
+    ∷ case C_text 1000000 C_records 2 1 (1 ∷ 0 ∷ 0 ∷ []) done 27 2 (pos 3)
+    ∷ case D_text 1000000 D_records 1 1 (1 ∷ 0 ∷ 0 ∷ []) done 1 0 (pos 0)
+    ∷ case E_text 1000000 E_records 1 1 (1 ∷ 0 ∷ 0 ∷ []) done 3 1 (pos 1)
+    ∷ case F_text 1000000 F_records 2 0 (0 ∷ 0 ∷ 0 ∷ []) done 1 0 (pos 0)
+    ∷ case G_text 1000000 G_records 2 0 (0 ∷ 0 ∷ 0 ∷ []) done 5 2 (pos 0)
+    ∷ case H_text 1000000 H_records 2 1 (1 ∷ 0 ∷ 0 ∷ []) done 4 2 (negsuc 0)
+    ∷ case I_text 1000000 I_records 1 3 (3 ∷ 2 ∷ 1 ∷ []) done 4 1 (pos 0)
+    ∷ case J_text 0 J_records 0 0 (0 ∷ 0 ∷ 0 ∷ []) spent 0 0 (pos 0)
+    ∷ case J_text 1 J_records 0 0 (0 ∷ 0 ∷ 0 ∷ []) spent 1 0 (pos 0)
+    ∷ case J_text 1000 J_records 0 0 (0 ∷ 0 ∷ 0 ∷ []) spent 1000 0 (pos 0)
+    ∷ case K_text 1000000 K_records 2 1 (1 ∷ 0 ∷ 0 ∷ []) done 6 2 (pos 3)
     ∷ []
 
 -- a case as the definitions have it, its run telling r
@@ -190,7 +190,7 @@ pub record ReadBackDeclines : Type 0 where
 
 -- B's machine code, loaded from a store of equal cells and previewed over sevens
 abbrev pub preview_B : ℤ → ℕ → Answer Ran × Store
-preview_B x budget = preview_machine B·machine (loaded B·table 2 2 (replicate 64 x)) 2 B·table (sevens 64) budget
+preview_B x budget = preview_machine B_machine (loaded B_table 2 2 (replicate 64 x)) 2 B_table (sevens 64) budget
 
 -- Loaded from sevens, under budget 3 and 4: the store so far, and the run's own at its end; loaded from eights, x0 and
 -- x1 come from the memory, and the other variables from the store.
@@ -256,8 +256,8 @@ pub record PairedEnds : Type 0 where
 
 -- B's machine code with its table and D, from sevens: x0 is x1 + 5 once it is stored.
 pub record PairedOfB : Type 0 where
-  pub under_3 : run_paired B·machine B·table (sevens 64) 2 3 ≡ (gives (ran spent 3 2), sevens 64)
-  pub under_4 : run_paired B·machine B·table (sevens 64) 2 4 ≡ (gives (ran done 4 2), pos 12 ∷ sevens 63)
+  pub under_3 : run_paired B_machine B_table (sevens 64) 2 3 ≡ (gives (ran spent 3 2), sevens 64)
+  pub under_4 : run_paired B_machine B_table (sevens 64) 2 4 ≡ (gives (ran done 4 2), pos 12 ∷ sevens 63)
 
 -- Where it declines, of code, table, store and D under budget 9: number and place, and the store as it was.
 pub record PairedDeclines : Type 0 where
@@ -274,9 +274,9 @@ pub record PairedDeclines : Type 0 where
   pub ten_second : run_paired (five 0x51 1 ++ five 0x51 0) one_entry (sevens 64) 2 9 ≡ (refused 10 1, sevens 64)
   -- 14: no address, where the table names one variable; 2 seen before 1
   pub fourteen : run_paired (five 0x50 0) one_entry (sevens 64) 2 9 ≡ (refused 14 0, sevens 64)
-  pub fourteen_order : run_paired (five 0x51 1 ++ five 0x51 2) B·table (sevens 64) 2 9 ≡ (refused 14 0, sevens 64)
+  pub fourteen_order : run_paired (five 0x51 1 ++ five 0x51 2) B_table (sevens 64) 2 9 ≡ (refused 14 0, sevens 64)
   -- 1 seen before 2: it runs
-  pub not_fourteen : run_paired (five 0x51 2 ++ five 0x51 1) B·table (sevens 64) 2 9
+  pub not_fourteen : run_paired (five 0x51 2 ++ five 0x51 1) B_table (sevens 64) 2 9
       ≡ (gives (ran done 2 2), sevens 64)
   -- 11: D 65; with 64 it runs
   pub eleven : run_paired (five 0x51 1) one_entry (sevens 64) 65 9 ≡ (refused 11 0, sevens 64)

@@ -11,7 +11,7 @@ use Rattle.text.specs.Reading.{number_due, number, expression_of, expression, co
 use Rattle.text.specs.Reading.{command, all_read, read_text}
 use Rattle.text.specs.Sizes.{expression_records, condition_records, records, expression_depth, condition_depth}
 use Rattle.text.specs.Sizes.{depth, expression_names, condition_names, names, how_many}
-use Rattle.text.specs.Cases.{B·text, C·text, G·text, J·text}
+use Rattle.text.specs.Cases.{B_text, C_text, G_text, J_text}
 use Rattle.source.specs.Rules.{charge, tick, raise, lower, cell, assign, in_range, add, value, truth, loop, exec}
 use Rattle.source.specs.Rules.{end_of, result_of}
 use Rattle.source.specs.Calls.{source_tests, run_source}
@@ -30,7 +30,7 @@ pub lines_as_bytes : LinesAsBytes
 lines_as_bytes = refl
 
 pub printed_B : PrintedB
-unfolding B·text zeros then' give and_then settle number_of number_at clamped holding
+unfolding B_text zeros then' give and_then settle number_of number_at clamped holding
     expression_byte condition_byte command_byte decline there due pass operand number_due number
     expression_of expression condition_of condition command_of command all_read read_text
     expression_records condition_records records expression_depth condition_depth depth
@@ -42,7 +42,7 @@ unfolding B·text zeros then' give and_then settle number_of number_at clamped h
 printed_B = refl
 
 pub printed_C : PrintedC
-unfolding C·text zeros then' give and_then settle number_of number_at clamped holding
+unfolding C_text zeros then' give and_then settle number_of number_at clamped holding
     expression_byte condition_byte command_byte decline there due pass operand number_due number
     expression_of expression condition_of condition command_of command all_read read_text
     expression_records condition_records records expression_depth condition_depth depth
@@ -54,7 +54,7 @@ unfolding C·text zeros then' give and_then settle number_of number_at clamped h
 printed_C = refl
 
 pub printed_G : PrintedG
-unfolding G·text zeros then' give and_then settle number_of number_at clamped holding
+unfolding G_text zeros then' give and_then settle number_of number_at clamped holding
     expression_byte condition_byte command_byte decline there due pass operand number_due number
     expression_of expression condition_of condition command_of command all_read read_text
     expression_records condition_records records expression_depth condition_depth depth
@@ -66,7 +66,7 @@ unfolding G·text zeros then' give and_then settle number_of number_at clamped h
 printed_G = refl
 
 pub printed_J : PrintedJ
-unfolding J·text zeros then' give and_then
+unfolding J_text zeros then' give and_then
     expression_byte condition_byte command_byte decline there due pass operand number_due number
     expression_of expression condition_of condition command_of command all_read read_text
     expression_records condition_records records expression_depth condition_depth depth

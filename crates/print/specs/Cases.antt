@@ -1,7 +1,7 @@
 -- Quoted lines as bytes; and what is printed for B, whole (document 01, "For B it prints, whole"), for C, G and J, and
 -- for the example of refusal 3.
 use Rattle.std.specs.Prelude.{◌≡◌, [], ◌∷◌}
-use Rattle.text.specs.Cases.{B·text, C·text, G·text, J·text, x64·text}
+use Rattle.text.specs.Cases.{B_text, C_text, G_text, J_text, x64_text}
 use Rattle.print.specs.Ascii.{lines}
 use Rattle.print.specs.Printing.{shown}
 
@@ -10,7 +10,7 @@ abbrev pub LinesAsBytes : Type 0
 LinesAsBytes = lines ("M 8" ∷ "8" ∷ []) ≡ 77 ∷ 32 ∷ 56 ∷ 10 ∷ 56 ∷ 10 ∷ []
 
 abbrev pub PrintedB : Type 0
-PrintedB = shown B·text ≡ lines (
+PrintedB = shown B_text ≡ lines (
     "records 4 stack 2 cells 2"
     ∷ "0 LOAD 1 | MLOAD 2"
     ∷ "1 LOADI 5 | MLOADI 5"
@@ -23,7 +23,7 @@ PrintedB = shown B·text ≡ lines (
 
 -- C, whole: a jump forward and a jump back, and 27 ticks.
 abbrev pub PrintedC : Type 0
-PrintedC = shown C·text ≡ lines (
+PrintedC = shown C_text ≡ lines (
     "records 8 stack 2 cells 1"
     ∷ "0 LOAD 0 | MLOAD 1"
     ∷ "1 LOADI 3 | MLOADI 3"
@@ -39,7 +39,7 @@ PrintedC = shown C·text ≡ lines (
 
 -- G, whole: done at 5, with a sum past a limit (document 02, W8); no variable is named.
 abbrev pub PrintedG : Type 0
-PrintedG = shown G·text ≡ lines (
+PrintedG = shown G_text ≡ lines (
     "records 7 stack 2 cells 0"
     ∷ "0 LOADI 2147483647 | MLOADI 2147483647"
     ∷ "1 LOADI 1 | MLOADI 1"
@@ -53,11 +53,11 @@ PrintedG = shown G·text ≡ lines (
 
 -- J, whole: spent at the budget.
 abbrev pub PrintedJ : Type 0
-PrintedJ = shown J·text ≡ lines (
+PrintedJ = shown J_text ≡ lines (
     "records 1 stack 0 cells 0"
     ∷ "0 JMP -1 | MJMP -1"
     ∷ "run spent 1000000"
     ∷ [])
 
 abbrev pub PrintedRefusal : Type 0
-PrintedRefusal = shown x64·text ≡ lines ("refused 3 at 1" ∷ [])
+PrintedRefusal = shown x64_text ≡ lines ("refused 3 at 1" ∷ [])

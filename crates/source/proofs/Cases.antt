@@ -14,7 +14,7 @@ use Rattle.text.specs.Reading.{expression_byte, condition_byte, command_byte, de
 use Rattle.text.specs.Reading.{number_due, number, expression_of, expression, condition_of, condition, command_of}
 use Rattle.text.specs.Reading.{command, all_read, read_text}
 use Rattle.text.specs.Syntax.{Bc, SKIP, WHILE◌DO◌}
-use Rattle.text.specs.Cases.{A·text, B·text, C·text, D·text, E·text, F·text, G·text, H·text, I·text, J·text, K·text}
+use Rattle.text.specs.Cases.{A_text, B_text, C_text, D_text, E_text, F_text, G_text, H_text, I_text, J_text, K_text}
 use Rattle.text.specs.Cases.{texts}
 use Rattle.source.specs.Rules.{Store, start, run_rules}
 use Rattle.source.specs.Rules.{charge, tick, raise, lower, cell, assign, in_range, add, value, truth, loop, exec}
@@ -25,7 +25,7 @@ use Rattle.source.specs.Cases.{PreviewDeclines}
 use Rattle.source.proofs.Calls.{source_runs}
 
 pub tallies : Tallies
-unfolding texts A·text B·text C·text D·text E·text F·text G·text H·text I·text J·text K·text zeros
+unfolding texts A_text B_text C_text D_text E_text F_text G_text H_text I_text J_text K_text zeros
     then' give and_then settle number_of number_at clamped holding
     expression_byte condition_byte command_byte decline there due pass operand number_due number
     expression_of expression condition_of condition command_of command all_read read_text
@@ -42,7 +42,7 @@ mark_tick_by_tick = refl
 -- ---- Sums past a limit
 
 pub holds : Holds
-unfolding G·text then' give and_then settle number_of number_at byte_number limited stopping clamped holding
+unfolding G_text then' give and_then settle number_of number_at byte_number limited stopping clamped holding
     expression_byte condition_byte command_byte decline there due pass operand number_due number
     expression_of expression condition_of condition command_of command all_read read_text
     charge tick raise lower cell assign in_range add value truth loop exec end_of result_of source_tests run_source
@@ -69,22 +69,22 @@ forever_rules : (n : ℕ) (s : Store) → run_rules sums (WHILE (Bc true) DO SKI
 unfolding exec
 forever_rules n s = forever_loop (suc n) n s (omega arith)
 
-J_read : read_text J·text ≡ gives (WHILE (Bc true) DO SKIP)
-unfolding J·text then' give
+J_read : read_text J_text ≡ gives (WHILE (Bc true) DO SKIP)
+unfolding J_text then' give
     expression_byte condition_byte command_byte decline there due pass operand number_due number
     expression_of expression condition_of condition command_of command all_read read_text
 J_read = refl
 
 pub forever : Forever
 forever budget s long =
-    source_runs J·text (WHILE (Bc true) DO SKIP) s budget J_read long
+    source_runs J_text (WHILE (Bc true) DO SKIP) s budget J_read long
     ∙ ap (λ (r : Result Store). (gives (report budget r), r.leaves)) (forever_rules budget s)
     ∙ ap (λ k. (gives (ran End.spent k 0), s)) (let z : budget - 0 ≡ budget = omega arith in z)
 
 -- ---- Where the call declines
 
 pub declines : Declines
-unfolding B·text then' give and_then settle number_of number_at
+unfolding B_text then' give and_then settle number_of number_at
     expression_byte condition_byte command_byte decline there due pass operand number_due number
     expression_of expression condition_of condition command_of command all_read read_text
     source_tests run_source
@@ -106,7 +106,7 @@ unfolding then' give and_then settle previewed byte_number clamped holding
 previews = refl
 
 pub preview_declines : PreviewDeclines
-unfolding B·text zeros then' give and_then settle previewed number_of number_at
+unfolding B_text zeros then' give and_then settle previewed number_of number_at
     expression_byte condition_byte command_byte decline there due pass operand number_due number
     expression_of expression condition_of condition command_of command all_read read_text
     source_tests run_source preview_source

@@ -5,7 +5,7 @@ use Rattle.base.specs.Answers.{Answer, gives, refused, and_then}
 use Rattle.base.specs.Ends.{End, done, spent, fault, out_of_range, result, Ran, ran}
 use Rattle.word.specs.Sums.{stopping}
 use Rattle.text.specs.Reading.{read_text}
-use Rattle.text.specs.Cases.{B·text, G·text, J·text, texts, x64·text}
+use Rattle.text.specs.Cases.{B_text, G_text, J_text, texts, x64_text}
 use Rattle.source.specs.Rules.{Store, run_rules}
 use Rattle.source.specs.Calls.{run_source, preview_source}
 
@@ -51,9 +51,9 @@ past_both =
 
 pub record Holds : Type 0 where
   -- "Case G is then done at 5": it names no variable, so its store is the one that it was given
-  pub G : run_source G·text (sevens 64) 1000 ≡ (gives (ran done 5 2), sevens 64)
+  pub G : run_source G_text (sevens 64) 1000 ≡ (gives (ran done 5 2), sevens 64)
   -- by the stopping rule, on which document 01 was built, it ended at 3, with 997 of 1,000 ticks left
-  pub G_stopped : and_then (read_text G·text) (λ c. gives (run_rules stopping c 1000 (sevens 64)))
+  pub G_stopped : and_then (read_text G_text) (λ c. gives (run_rules stopping c 1000 (sevens 64)))
       ≡ gives (result (fault out_of_range) 997 2 (sevens 64))
   -- each sum takes the limit's value, and its tick is charged
   pub at_limits : run_source past_both (sevens 64) 1000
@@ -68,19 +68,19 @@ pub record Holds : Type 0 where
 -- J is "spent at every budget".
 abbrev pub Forever : Type 0
 Forever = (budget : ℕ) (s : Store) → length s ≡ 64
-    → run_source J·text s budget ≡ (gives (ran spent budget 0), s)
+    → run_source J_text s budget ≡ (gives (ran spent budget 0), s)
 
 -- ---- Where run_source declines: 6, reading, 8
 
 -- Number and place, and the store as it was. Where two refusals are due, the first in order is given.
 pub record Declines : Type 0 where
   -- 8: B with a store of 63 cells, and of 65
-  pub eight : run_source B·text (sevens 63) 9 ≡ (refused 8 0, sevens 63)
-  pub eight_longer : run_source B·text (sevens 65) 9 ≡ (refused 8 0, sevens 65)
+  pub eight : run_source B_text (sevens 63) 9 ≡ (refused 8 0, sevens 63)
+  pub eight_longer : run_source B_text (sevens 65) 9 ≡ (refused 8 0, sevens 65)
   -- 6, and reading's 2: 4,097 bytes `7F`
   pub six_reading : run_source (replicate 4097 0x7f) (sevens 64) 9 ≡ (refused 6 0, sevens 64)
   -- reading's 3, and 8: `01 40 11 00` and a store of 63 cells
-  pub reading_eight : run_source x64·text (sevens 63) 9 ≡ (refused 3 1, sevens 63)
+  pub reading_eight : run_source x64_text (sevens 63) 9 ≡ (refused 3 1, sevens 63)
 
 -- ---- Previews (document 02, W3)
 
@@ -93,7 +93,7 @@ Previews = map (preview_source two_assignments (sevens 64)) (3 ∷ 4 ∷ 6 ∷ [
 
 -- It declines as the run does, and its store is then 64 zeros.
 pub record PreviewDeclines : Type 0 where
-  pub eight : preview_source B·text (sevens 63) 9 ≡ (refused 8 0, zeros)
-  pub eight_longer : preview_source B·text (sevens 65) 9 ≡ (refused 8 0, zeros)
+  pub eight : preview_source B_text (sevens 63) 9 ≡ (refused 8 0, zeros)
+  pub eight_longer : preview_source B_text (sevens 65) 9 ≡ (refused 8 0, zeros)
   pub six_reading : preview_source (replicate 4097 0x7f) (sevens 64) 9 ≡ (refused 6 0, zeros)
-  pub reading_eight : preview_source x64·text (sevens 63) 9 ≡ (refused 3 1, zeros)
+  pub reading_eight : preview_source x64_text (sevens 63) 9 ≡ (refused 3 1, zeros)

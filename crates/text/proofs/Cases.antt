@@ -10,11 +10,11 @@ use Rattle.text.specs.Reading.{command, all_read, read_text}
 use Rattle.text.specs.Sizes.{expression_records, condition_records, records, expression_depth, condition_depth}
 use Rattle.text.specs.Sizes.{depth, expression_names, condition_names, names, how_many}
 use Rattle.text.specs.Calls.{read_call}
-use Rattle.text.specs.Cases.{A·text, B·text, C·text, D·text, E·text, F·text, G·text, H·text, I·text}
-use Rattle.text.specs.Cases.{J·text, K·text, texts, Readings, Refusals, Places, FirstRefusal, OneByteConstants}
+use Rattle.text.specs.Cases.{A_text, B_text, C_text, D_text, E_text, F_text, G_text, H_text, I_text}
+use Rattle.text.specs.Cases.{J_text, K_text, texts, Readings, Refusals, Places, FirstRefusal, OneByteConstants}
 
 pub readings : Readings
-unfolding texts A·text B·text C·text D·text E·text F·text G·text H·text I·text J·text K·text
+unfolding texts A_text B_text C_text D_text E_text F_text G_text H_text I_text J_text K_text
     then' give and_then number_of number_at
     expression_byte condition_byte command_byte decline there due pass operand number_due number
     expression_of expression condition_of condition command_of command all_read read_text read_call

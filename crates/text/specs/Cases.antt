@@ -13,53 +13,53 @@ abbrev pub overflow : List ℕ
 overflow = 0x23 ∷ 0x12 ∷ 0x10 ∷ 0xff ∷ 0xff ∷ 0xff ∷ 0x7f ∷ 0x10 ∷ 1 ∷ 0 ∷ 0 ∷ 0 ∷ 0x10 ∷ 0 ∷ 0 ∷ 0 ∷ 0 ∷ []
 
 -- SKIP
-unfoldable pub A·text : List ℕ
-A·text = 0x00 ∷ []
+unfoldable pub A_text : List ℕ
+A_text = 0x00 ∷ []
 
 -- x0 := x1 + 5
-unfoldable pub B·text : List ℕ
-B·text = 0x01 ∷ 0 ∷ 0x12 ∷ 0x11 ∷ 1 ∷ 0x10 ∷ 5 ∷ 0 ∷ 0 ∷ 0 ∷ []
+unfoldable pub B_text : List ℕ
+B_text = 0x01 ∷ 0 ∷ 0x12 ∷ 0x11 ∷ 1 ∷ 0x10 ∷ 5 ∷ 0 ∷ 0 ∷ 0 ∷ []
 
 -- WHILE x0 < 3 DO x0 := x0 + 1
-unfoldable pub C·text : List ℕ
-C·text =
+unfoldable pub C_text : List ℕ
+C_text =
     0x04 ∷ 0x23 ∷ 0x11 ∷ 0 ∷ 0x10 ∷ 3 ∷ 0 ∷ 0 ∷ 0
     ∷ 0x01 ∷ 0 ∷ 0x12 ∷ 0x11 ∷ 0 ∷ 0x10 ∷ 1 ∷ 0 ∷ 0 ∷ 0 ∷ []
 
 -- IF true SKIP ELSE x0 := 1
-unfoldable pub D·text : List ℕ
-D·text = 0x03 ∷ 0x20 ∷ 1 ∷ 0x00 ∷ 0x01 ∷ 0 ∷ 0x10 ∷ 1 ∷ 0 ∷ 0 ∷ 0 ∷ []
+unfoldable pub D_text : List ℕ
+D_text = 0x03 ∷ 0x20 ∷ 1 ∷ 0x00 ∷ 0x01 ∷ 0 ∷ 0x10 ∷ 1 ∷ 0 ∷ 0 ∷ 0 ∷ []
 
 -- IF false SKIP ELSE x0 := 1
-unfoldable pub E·text : List ℕ
-E·text = 0x03 ∷ 0x20 ∷ 0 ∷ 0x00 ∷ 0x01 ∷ 0 ∷ 0x10 ∷ 1 ∷ 0 ∷ 0 ∷ 0 ∷ []
+unfoldable pub E_text : List ℕ
+E_text = 0x03 ∷ 0x20 ∷ 0 ∷ 0x00 ∷ 0x01 ∷ 0 ∷ 0x10 ∷ 1 ∷ 0 ∷ 0 ∷ 0 ∷ []
 
 -- IF false And (2147483647 + 1 < 0), both branches SKIP
-unfoldable pub F·text : List ℕ
-F·text = (0x03 ∷ 0x22 ∷ 0x20 ∷ 0 ∷ []) ++ (overflow ++ (0x00 ∷ 0x00 ∷ []))
+unfoldable pub F_text : List ℕ
+F_text = (0x03 ∷ 0x22 ∷ 0x20 ∷ 0 ∷ []) ++ (overflow ++ (0x00 ∷ 0x00 ∷ []))
 
 -- F with And's sides exchanged
-unfoldable pub G·text : List ℕ
-G·text = (0x03 ∷ 0x22 ∷ []) ++ (overflow ++ (0x20 ∷ 0 ∷ 0x00 ∷ 0x00 ∷ []))
+unfoldable pub G_text : List ℕ
+G_text = (0x03 ∷ 0x22 ∷ []) ++ (overflow ++ (0x20 ∷ 0 ∷ 0x00 ∷ 0x00 ∷ []))
 
 -- x0 := −2147483648 + 2147483647
-unfoldable pub H·text : List ℕ
-H·text = 0x01 ∷ 0 ∷ 0x12 ∷ 0x10 ∷ 0 ∷ 0 ∷ 0 ∷ 0x80 ∷ 0x10 ∷ 0xff ∷ 0xff ∷ 0xff ∷ 0x7f ∷ []
+unfoldable pub H_text : List ℕ
+H_text = 0x01 ∷ 0 ∷ 0x12 ∷ 0x10 ∷ 0 ∷ 0 ∷ 0 ∷ 0x80 ∷ 0x10 ∷ 0xff ∷ 0xff ∷ 0xff ∷ 0x7f ∷ []
 
 -- x0 := x1; x2 := x1
-unfoldable pub I·text : List ℕ
-I·text = 0x02 ∷ 0x01 ∷ 0 ∷ 0x11 ∷ 1 ∷ 0x01 ∷ 2 ∷ 0x11 ∷ 1 ∷ []
+unfoldable pub I_text : List ℕ
+I_text = 0x02 ∷ 0x01 ∷ 0 ∷ 0x11 ∷ 1 ∷ 0x01 ∷ 2 ∷ 0x11 ∷ 1 ∷ []
 
 -- WHILE true SKIP
-unfoldable pub J·text : List ℕ
-J·text = 0x04 ∷ 0x20 ∷ 1 ∷ 0x00 ∷ []
+unfoldable pub J_text : List ℕ
+J_text = 0x04 ∷ 0x20 ∷ 1 ∷ 0x00 ∷ []
 
 -- x0 := (1 + 1) + 1
-unfoldable pub K·text : List ℕ
-K·text = 0x01 ∷ 0 ∷ 0x12 ∷ 0x12 ∷ 0x10 ∷ 1 ∷ 0 ∷ 0 ∷ 0 ∷ 0x10 ∷ 1 ∷ 0 ∷ 0 ∷ 0 ∷ 0x10 ∷ 1 ∷ 0 ∷ 0 ∷ 0 ∷ []
+unfoldable pub K_text : List ℕ
+K_text = 0x01 ∷ 0 ∷ 0x12 ∷ 0x12 ∷ 0x10 ∷ 1 ∷ 0 ∷ 0 ∷ 0 ∷ 0x10 ∷ 1 ∷ 0 ∷ 0 ∷ 0 ∷ 0x10 ∷ 1 ∷ 0 ∷ 0 ∷ 0 ∷ []
 
 unfoldable pub texts : List (List ℕ)
-texts = A·text ∷ B·text ∷ C·text ∷ D·text ∷ E·text ∷ F·text ∷ G·text ∷ H·text ∷ I·text ∷ J·text ∷ K·text ∷ []
+texts = A_text ∷ B_text ∷ C_text ∷ D_text ∷ E_text ∷ F_text ∷ G_text ∷ H_text ∷ I_text ∷ J_text ∷ K_text ∷ []
 
 -- "An accepted text's reading gives its record count, D and n"
 abbrev pub read : ℕ → ℕ → ℕ → Answer Sizes
@@ -72,13 +72,13 @@ Readings = map read_call texts ≡
     ∷ read 4 1 3 ∷ read 1 0 0 ∷ read 6 2 1 ∷ []
 
 -- The example of refusal 3: x64 := x0
-abbrev pub x64·text : List ℕ
-x64·text = 0x01 ∷ 0x40 ∷ 0x11 ∷ 0x00 ∷ []
+abbrev pub x64_text : List ℕ
+x64_text = 0x01 ∷ 0x40 ∷ 0x11 ∷ 0x00 ∷ []
 
 -- The examples of refusals 1 to 6.
 abbrev pub Refusals : Type 0
 Refusals = map read_call (
-    (0x01 ∷ 0x00 ∷ []) ∷ (0x7f ∷ []) ∷ x64·text ∷ replicate 65 0x02 ∷ (0x00 ∷ 0x00 ∷ []) ∷ replicate 4097 0x00 ∷ [])
+    (0x01 ∷ 0x00 ∷ []) ∷ (0x7f ∷ []) ∷ x64_text ∷ replicate 65 0x02 ∷ (0x00 ∷ 0x00 ∷ []) ∷ replicate 4097 0x00 ∷ [])
     ≡ refused 1 2 ∷ refused 2 0 ∷ refused 3 1 ∷ refused 4 64 ∷ refused 5 1 ∷ refused 6 0 ∷ []
 
 -- The place: "a byte offset for 1 to 5 (for 1 the text's length, for 3 the operand)", and 0 for 6.
@@ -125,16 +125,16 @@ pub record FirstRefusal : Type 0 where
   pub three_two : read_call (0x02 ∷ 0x01 ∷ 0x40 ∷ 0x11 ∷ 0 ∷ 0x7f ∷ []) ≡ refused 3 2
   pub two_three : read_call (0x02 ∷ 0x7f ∷ 0x01 ∷ 0x40 ∷ 0x11 ∷ 0 ∷ []) ≡ refused 2 1
   -- 3, and 5: `01 40 11 00` and a byte left over
-  pub three_five : read_call (x64·text ++ (0x00 ∷ [])) ≡ refused 3 1
+  pub three_five : read_call (x64_text ++ (0x00 ∷ [])) ≡ refused 3 1
 
 -- C, 19 bytes, with one_byte constants: 13 bytes
-abbrev pub C·short : List ℕ
-C·short = 0x04 ∷ 0x23 ∷ 0x11 ∷ 0 ∷ 0x13 ∷ 3 ∷ 0x01 ∷ 0 ∷ 0x12 ∷ 0x11 ∷ 0 ∷ 0x13 ∷ 1 ∷ []
+abbrev pub C_short : List ℕ
+C_short = 0x04 ∷ 0x23 ∷ 0x11 ∷ 0 ∷ 0x13 ∷ 3 ∷ 0x01 ∷ 0 ∷ 0x12 ∷ 0x11 ∷ 0 ∷ 0x13 ∷ 1 ∷ []
 
 -- "Expression byte 13 with one signed byte as its operand."
 pub record OneByteConstants : Type 0 where
   -- C's record count, D and n
-  pub short_C : read_call C·short ≡ read 8 2 1
+  pub short_C : read_call C_short ≡ read 8 2 1
   -- x0 := −128, with its width
   pub least : read_text (0x01 ∷ 0 ∷ 0x13 ∷ 0x80 ∷ []) ≡ gives (0 := Constant one_byte (negsuc 127))
   -- 1, as for any operand: `13` with no byte
