@@ -1,4 +1,4 @@
--- Addresses, the table, machine code and the way back (document 01, "Records"; document 001, vars, addr_of, to-m-prog);
+-- Addresses, the table, machine code and the way back (document 01, "Records"; document 001, vars, addr_of, to_m_prog);
 -- and whether a table's n and machine code agree (document 02, W6).
 use Rattle.std.specs.Prelude.{ℕ, zero, suc, ◌-◌, Bool, true, false, ◌&&◌, List, [], ◌∷◌, map, eqb, length}
 use Rattle.std.proofs.Math.Option.{Option, none, some}
@@ -36,7 +36,7 @@ unfoldable pub addr_of : List ℕ → ℕ → ℕ
 addr_of [] v = 0
 addr_of (x ∷ xs) v = if eqb x v then suc (length xs) else addr_of xs v
 
--- The published to-m-prog: "the machine code is a map over the assembly, record for record"
+-- The published to_m_prog: "the machine code is a map over the assembly, record for record"
 abbrev pub to_m_prog : AssemblyCode → MachineCode
 to_m_prog P = map (rename (λ v. address (addr_of (vars P) v.0))) P
 

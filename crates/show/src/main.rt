@@ -48,17 +48,18 @@ fn words(text: &str) -> &str {
     }
 }
 
-// Prints on standard error what failed, and why.
-fn report(rt: &HostRuntime, what: &str, error: &io::Error) -> io::Result<()> {
-    let text = format!(in rt.alloc(); "{error}")?;
-    let why = words(&text);
-    eprintln!(rt; "show: {what}: {why}")
+// Prints on standard error what failed, and why; where that cannot be printed either, nothing.
+fn report(rt: &HostRuntime, what: &str, error: &io::Error) {
+    if let Ok(text) = format!(in rt.alloc(); "{error}") {
+        let why = words(&text);
+        let _ = eprintln!(rt; "show: {what}: {why}");
+    }
 }
 
 // One byte more than the longest text: where all of them are read, the text is too long, however long it is.
 const INPUT_BYTES: usize = text::LONGEST + 1;
 
-fn main(rt: HostRuntime) -> io::Result<()> {
+fn main(rt: HostRuntime) {
     let mut text = [0u8; INPUT_BYTES];
     let length = match read_input(&mut rt.reader(), &mut text) {
         Input::Read(length) => length,
@@ -66,8 +67,7 @@ fn main(rt: HostRuntime) -> io::Result<()> {
     };
     let mut out = print_render::output_buffer();
     let size = print_render::render(&text[..length], &mut out);
-    match io::writer(&rt).write_all(&out[..size]) {
-        Ok(()) => Ok(()),
-        Err(error) => report(&rt, "cannot write to standard output", &error),
+    if let Err(error) = io::writer(&rt).write_all(&out[..size]) {
+        report(&rt, "cannot write to standard output", &error);
     }
 }

@@ -1,5 +1,5 @@
 -- The texts of profiles A to K, and what reading gives for them (document 01, "Profiles to hold it to"); texts with
--- one_byte constants (document 02, W1).
+-- one-byte constants (document 02, W1).
 use Rattle.std.specs.Prelude.{◌≡◌, ℕ, List, [], ◌∷◌, ◌++◌, map, negsuc, replicate}
 use Rattle.base.specs.Answers.{Answer, gives, refused}
 use Rattle.text.specs.Sizes.{sized}
@@ -127,7 +127,7 @@ pub record FirstRefusal : Type 0 where
   -- 3, and 5: `01 40 11 00` and a byte left over
   pub three_five : read_call (x64_text ++ (0x00 ∷ [])) ≡ refused 3 1
 
--- C, 19 bytes, with one_byte constants: 13 bytes
+-- C, 19 bytes, with one-byte constants: 13 bytes
 abbrev pub C_short : List ℕ
 C_short = 0x04 ∷ 0x23 ∷ 0x11 ∷ 0 ∷ 0x13 ∷ 3 ∷ 0x01 ∷ 0 ∷ 0x12 ∷ 0x11 ∷ 0 ∷ 0x13 ∷ 1 ∷ []
 

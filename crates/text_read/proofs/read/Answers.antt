@@ -1,8 +1,6 @@
 -- `read` meets its contract: it answers by what its command's answer says.
-use Rattle.std.proofs.Common.{refl, sym, ◌∙◌}
+use Rattle.std.proofs.Common.{refl, ◌∙◌}
 use Rattle.text.proofs.Ranges.{too_long}
-use Rattle.text_conditions.proofs.Parts.{as_many}
-use Rattle.text_commands.specs.Code.{commands}
 use Rattle.text_read.proofs.Whole.{call_refused, call_left_over, call_accepted}
 use Rattle.text_read.proofs.read.Goals as goal
 
