@@ -38,6 +38,12 @@ pub fn pages() -> Vec<String> {
     pages
 }
 
+/// Those that speak of the code as it is: docs/PORT.md and docs/DESIGN-PASS.md tell what it was before, too.
+pub fn present() -> Vec<String> {
+    let past = ["docs/PORT.md", "docs/DESIGN-PASS.md"];
+    pages().into_iter().filter(|page| !past.contains(&page.as_str())).collect()
+}
+
 /// The parts of a text between backticks.
 pub fn quoted(text: &str) -> Vec<&str> {
     text.split('`').skip(1).step_by(2).collect()

@@ -3,7 +3,7 @@
 
 use std::collections::BTreeSet;
 
-use profile_tests::pages::{between, cells, files, is_crate, listed, pages, quoted, root, source, text};
+use profile_tests::pages::{between, cells, files, is_crate, listed, pages, present, quoted, root, source, text};
 
 /// Whether a file has a name as a whole word.
 fn has_word(text: &str, word: &str) -> bool {
@@ -15,7 +15,7 @@ fn has_word(text: &str, word: &str) -> bool {
 #[test]
 fn named_files() {
     let mut count = 0;
-    for page in pages() {
+    for page in present() {
         for name in quoted(&text(&page)) {
             let parts: Vec<&str> = name.split('/').collect();
             if parts.len() >= 3 && is_crate(parts[0]) && ["specs", "proofs", "src", "must-fail"].contains(&parts[1]) {
@@ -66,7 +66,7 @@ fn definitions() {
 #[test]
 fn functions() {
     let mut count = 0;
-    for page in pages() {
+    for page in present() {
         for quote in quoted(&text(&page)) {
             let Some((owner, names)) = quote.split_once("::") else { continue };
             let text = if is_crate(owner) {
@@ -78,7 +78,8 @@ fn functions() {
                 continue;
             };
             for name in names.split(", ") {
-                let there = [format!("fn {name}("), format!("const {name}:")].iter().any(|item| text.contains(item));
+                let items = [format!("fn {name}("), format!("fn {name}<"), format!("const {name}:")];
+                let there = items.iter().any(|item| text.contains(item));
                 assert!(there, "{page}: {owner}::{name}");
                 count += 1;
             }

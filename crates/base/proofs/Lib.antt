@@ -3,4 +3,3 @@ pub mod Settled
 pub mod Sweep
 pub mod Rests
 pub mod Rows
-pub mod Cycles

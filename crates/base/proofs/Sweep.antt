@@ -3,7 +3,7 @@
 use mathlib.Core.Path.{◌≡◌, refl, sym, ◌∙◌}
 use mathlib.Core.List.{List}
 use Prim.Native.Nat.{ℕ, ◌+◌, ◌<◌, ◌≤◌}
-use native.Mathlib.Decide.{ℕ_discrete, dec_lt}
+use native.Mathlib.Decide.{ℕ_discrete}
 use native.Mathlib.Omega.{arith}
 use lib.ListN.{length, get_or, set, length-set}
 use lib.Seq.{get_or-set_same, get_or-set_other, ext_get_or}
@@ -45,13 +45,6 @@ module _ {A : Type 0} {d : A} {old new : List A} where
       by w k (yes q) = rw q (get_or-set_same now v x d (omega (arith, s.long)) ∙ e)
       by w k (no q) = get_or-set_other now v w x d q ∙ s.done w (omega (arith, q))
 
-  -- Where the rest of the new list is the rest of the old one, the list is the new one,
-  pub swept_stop : {now : List A} {v : ℕ} → Swept d old new now v → ((w : ℕ) → v ≤ w → get_or old w d ≡ get_or new w d)
-      → length new ≡ length old → now ≡ new
-  swept_stop {now = now} {v = v} s h e =
-      ext_get_or d now new (s.long ∙ sym e) (λ w k.
-      elim (dec_lt w v) [ yes l ↦ s.done w l | no l ↦ s.rest w (omega arith) ∙ h w (omega arith) ])
-
-  -- and so where no rest is left.
+  -- Where no rest is left, the list is the new one.
   pub swept_end : {now : List A} {v : ℕ} → Swept d old new now v → length old ≤ v → length new ≡ length old → now ≡ new
   swept_end {now = now} s h e = ext_get_or d now new (s.long ∙ sym e) (λ w k. s.done w (omega (arith, s.long)))

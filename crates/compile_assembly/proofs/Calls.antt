@@ -6,6 +6,8 @@ use Prim.Native.Nat.{ℕ, ◌*◌, ◌≤◌, ◌<◌}
 use native.Mathlib.Omega.{arith}
 use lib.ListN.{length}
 use borrow.Author.Tests.{le-leb, lt-leb}
+use Rattle.base.specs.Code.{number_of}
+use Rattle.std.specs.Prelude.{Result, Ok, Err}
 use Rattle.base.specs.Answers.{Answer, gives, refused, and_then, settle}
 use Rattle.base.specs.declared.Refusal.{Refusal}
 use Rattle.base.proofs.Answers.{gives_one}
@@ -16,8 +18,6 @@ use Rattle.text.specs.Encoding.{Bytes}
 use Rattle.text.specs.Reading.{read_text}
 use Rattle.text.specs.Sizes.{records, sizes}
 use Rattle.text.specs.declared.Sizes.{Sizes}
-use Rattle.text.specs.declared.Reading.{Reading}
-use Rattle.text.specs.declared.Reading.TheVariants.{Refused, Accepted}
 use Rattle.text.specs.Code.{sizes_answer}
 use Rattle.text.specs.Calls.{read_call}
 use Rattle.text.proofs.Opened.{read_gives, read_refuses}
@@ -43,8 +43,8 @@ sizes_told text {c} e f =
     let told : read_call text ≡ gives (sizes c) = simp e in
     cc
 
-pub found : {text : List ℕ} {r : Reading} {z : Sizes} → Bytes text → sizes_answer r ≡ read_call text → r ≡ Accepted z
-    → Found text z
+pub found : {text : List ℕ} {r : Result Sizes Refusal} {z : Sizes} → Bytes text → sizes_answer r ≡ read_call text
+    → r ≡ Ok z → Found text z
 found {text} bytes e is =
     let gave = ap sizes_answer (sym is) ∙ e in
     let (c, f) = read_gives text gave in
@@ -59,9 +59,10 @@ module _ (text out : List ℕ) where
   tests = and_then (assemble_tests text out) (λ c. gives (sizes c))
 
   -- Reading declines,
-  pub unread : {r : Reading} {x : Refusal} → sizes_answer r ≡ read_call text → r ≡ Refused x → sizes_answer r ≡ tests
+  pub unread : {r : Result Sizes Refusal} {x : Refusal} → sizes_answer r ≡ read_call text → r ≡ Err x
+      → refused (number_of x.reason) x.place ≡ tests
   unfolding assemble_tests and_then
-  unread e is = rw is (simp (read_refuses text (ap sizes_answer (sym is) ∙ e)))
+  unread e is = simp (read_refuses text (ap sizes_answer (sym is) ∙ e))
 
   -- or the output is too short,
   pub too_short : {c : Command} → read_text text ≡ gives c → length out < 5 * records c → refused 7 0 ≡ tests
@@ -81,33 +82,35 @@ pub record Given (tests : Answer Command) (z : Sizes) : Type 0 where
   pub passed : tests ≡ gives command
   pub tells : z ≡ sizes command
 
-module _ (tests : Answer Command) {r : Reading} (e : sizes_answer r ≡ and_then tests (λ c. gives (sizes c))) where
+module _ (tests : Answer Command) {r : Result Sizes Refusal}
+    (e : sizes_answer r ≡ and_then tests (λ c. gives (sizes c))) where
   -- Where they declined,
-  refuses : {x : Refusal} → r ≡ Refused x → tests ≡ refused x.number x.place
+  refuses : {x : Refusal} → r ≡ Err x → tests ≡ refused (number_of x.reason) x.place
   unfolding and_then
   refuses {x} is = by tests (ap sizes_answer (sym is) ∙ e)
     where
-      by : (t : Answer Command) → refused x.number x.place ≡ and_then t (λ c. gives (sizes c))
-          → t ≡ refused x.number x.place
+      by : (t : Answer Command) → refused (number_of x.reason) x.place ≡ and_then t (λ c. gives (sizes c))
+          → t ≡ refused (number_of x.reason) x.place
       by (gives c) e = let no : ◌≡◌ {A = ℕ} 0 1 = cc in absurd (omega arith)
       by (refused _ _) e = cc
 
   -- and where they gave sizes
-  pub given : {z : Sizes} → r ≡ Accepted z → Given tests z
+  pub given : {z : Sizes} → r ≡ Ok z → Given tests z
   given is =
       let n = needed tests (λ c. gives (sizes c)) (sym e ∙ ap sizes_answer is) in
       record { command = n.value; passed = n.given; tells = sym (gives_one _ _ n.then_gives) }
 
   module _ {B : Type 0} (buffers : Command → B) (old : B) where
     -- The call declines, and leaves its buffers,
-    pub declines : {x : Refusal} → r ≡ Refused x → (sizes_answer r, old) ≡ settle tests sizes buffers old
-    declines is = rw is (Settled.declined tests sizes buffers old (refuses is))
+    pub declines : {x : Refusal} → r ≡ Err x
+        → (refused (number_of x.reason) x.place, old) ≡ settle tests sizes buffers old
+    declines is = Settled.declined tests sizes buffers old (refuses is)
 
     -- or gives the sizes, and leaves what it writes of the command.
-    pub settles : {z : Sizes} {now : B} → r ≡ Accepted z → (g : Given tests z) → now ≡ buffers g.command
-        → (sizes_answer r, now) ≡ settle tests sizes buffers old
+    pub settles : {z : Sizes} {now : B} → r ≡ Ok z → (g : Given tests z) → now ≡ buffers g.command
+        → (gives z, now) ≡ settle tests sizes buffers old
     settles {now = now} is g leaves =
-        ap (λ a. (a, now)) (ap sizes_answer is ∙ ap gives g.tells)
+        ap (λ a. (a, now)) (ap gives g.tells)
         ∙ Settled.settled tests sizes buffers old g.passed leaves
 
 -- What `assemble` that gives sizes leaves

@@ -16,10 +16,11 @@ ghost use Rattle.compile.specs.Calls.{assemble_tests, assemble};
 ghost use Rattle.compile_sizes.specs.Cache.{ConditionSizes};
 ghost use Rattle.compile_conditions.specs.Parts.{Writable, Writes};
 
+use base::{Reason, Refusal};
 use compile_conditions::{write_condition, write_expression};
-use compile_sizes::{PartSize, SLOTS, condition_size};
+use compile_sizes::{PartSize, SizeCache, condition_size};
 use record::{JMP, RECORD_BYTES, STORE, put_record};
-use text::Reading;
+use text::Sizes;
 use text_shape::{ASSIGN, IF, SEQUENCE, SKIP};
 
 // ---- Commands
@@ -39,11 +40,10 @@ fn write_assignment(text: &[u8], at: usize, nest: usize, out: &mut [u8]) -> Part
     ensures { Writes ccomp (command text.now nest at) out.old out.new result }
 {
     let value = write_expression(text, at + 2, nest - 1, out);
-    let n = value.records;
-    put_record(out, n, STORE, text[at + 1] as i32);
+    put_record(out, value.records, STORE, i32::from(text[at + 1]));
     PartSize {
         next: value.next,
-        records: n + 1,
+        records: value.records + 1,
     }
 }
 
@@ -53,7 +53,7 @@ fn write_sequence(
     text: &[u8],
     at: usize,
     nest: usize,
-    sizes: &mut [u32; SLOTS],
+    sizes: &mut SizeCache,
     out: &mut [u8],
 ) -> PartSize
     requires first_byte { get_or text.now at 0 ≡ 0x02 }
@@ -62,49 +62,39 @@ fn write_sequence(
     ensures writes { Writes ccomp (command text.now nest at) out.old out.new result }
     ensures condition_sizes_after { ConditionSizes text.now sizes.new }
 {
-    let first = write_command(text, at + 1, nest - 1, sizes, out);
-    let middle = first.next;
-    let n = first.records;
-    let start = RECORD_BYTES * n;
-    let second = write_command(text, middle, nest - 1, sizes, &mut out[start..]);
+    let inner = nest - 1;
+    let first = write_command(text, at + 1, inner, sizes, out);
+    let rest = &mut out[RECORD_BYTES * first.records..];
+    let second = write_command(text, first.next, inner, sizes, rest);
     PartSize {
         next: second.next,
-        records: n + second.records,
+        records: first.records + second.records,
     }
 }
 
 // IF's records: the condition's, which jump to the second branch; the first branch's, the jump over the second; the
 // second's. Both branches are written where they will stand, then the jump between them, then the condition.
 #[cycle(write_command_write_if_write_sequence_write_while)]
-fn write_if(
-    text: &[u8],
-    at: usize,
-    nest: usize,
-    sizes: &mut [u32; SLOTS],
-    out: &mut [u8],
-) -> PartSize
+fn write_if(text: &[u8], at: usize, nest: usize, sizes: &mut SizeCache, out: &mut [u8]) -> PartSize
     requires first_byte { get_or text.now at 0 ≡ 0x03 }
     requires writable { Writable ccomp 0 (command text.now nest at) out.old }
     requires condition_sizes { ConditionSizes text.now sizes.old }
     ensures writes { Writes ccomp (command text.now nest at) out.old out.new result }
     ensures condition_sizes_after { ConditionSizes text.now sizes.new }
 {
-    let test = condition_size(text, at + 1, nest - 1, false, sizes);
-    let then = test.next;
-    let t = test.records;
-    let start = RECORD_BYTES * t;
-    let yes = write_command(text, then, nest - 1, sizes, &mut out[start..]);
-    let otherwise = yes.next;
-    let n = yes.records;
-    let jump = t + n;
-    let rest = RECORD_BYTES * (jump + 1);
-    let no = write_command(text, otherwise, nest - 1, sizes, &mut out[rest..]);
-    let m = no.records;
-    put_record(out, jump, JMP, m as i32);
-    write_condition(text, at + 1, nest - 1, false, n + 1, t, sizes, out);
+    let inner = nest - 1;
+    let test = condition_size(text, at + 1, inner, false, sizes);
+    let behind_test = &mut out[RECORD_BYTES * test.records..];
+    let yes = write_command(text, test.next, inner, sizes, behind_test);
+    let jump = test.records + yes.records;
+    let behind_jump = &mut out[RECORD_BYTES * (jump + 1)..];
+    let no = write_command(text, yes.next, inner, sizes, behind_jump);
+    put_record(out, jump, JMP, no.records as i32);
+    let over = yes.records + 1;
+    write_condition(text, at + 1, inner, false, over, test.records, sizes, out);
     PartSize {
         next: no.next,
-        records: jump + 1 + m,
+        records: jump + 1 + no.records,
     }
 }
 
@@ -115,7 +105,7 @@ fn write_while(
     text: &[u8],
     at: usize,
     nest: usize,
-    sizes: &mut [u32; SLOTS],
+    sizes: &mut SizeCache,
     out: &mut [u8],
 ) -> PartSize
     requires first_byte { get_or text.now at 0 ≡ 0x04 }
@@ -124,15 +114,14 @@ fn write_while(
     ensures writes { Writes ccomp (command text.now nest at) out.old out.new result }
     ensures condition_sizes_after { ConditionSizes text.now sizes.new }
 {
-    let test = condition_size(text, at + 1, nest - 1, false, sizes);
-    let then = test.next;
-    let t = test.records;
-    let start = RECORD_BYTES * t;
-    let body = write_command(text, then, nest - 1, sizes, &mut out[start..]);
-    let size = body.records;
-    let jump = t + size;
+    let inner = nest - 1;
+    let test = condition_size(text, at + 1, inner, false, sizes);
+    let behind_test = &mut out[RECORD_BYTES * test.records..];
+    let body = write_command(text, test.next, inner, sizes, behind_test);
+    let jump = test.records + body.records;
     put_record(out, jump, JMP, back_over(jump));
-    write_condition(text, at + 1, nest - 1, false, size + 1, t, sizes, out);
+    let over = body.records + 1;
+    write_condition(text, at + 1, inner, false, over, test.records, sizes, out);
     PartSize {
         next: body.next,
         records: jump + 1,
@@ -145,7 +134,7 @@ fn write_command(
     text: &[u8],
     at: usize,
     nest: usize,
-    sizes: &mut [u32; SLOTS],
+    sizes: &mut SizeCache,
     out: &mut [u8],
 ) -> PartSize
     requires writable { Writable ccomp 0 (command text.now nest at) out.old }
@@ -153,40 +142,30 @@ fn write_command(
     ensures writes { Writes ccomp (command text.now nest at) out.old out.new result }
     ensures condition_sizes_after { ConditionSizes text.now sizes.new }
 {
-    let byte = text[at];
-    if byte == SKIP {
-        return PartSize {
+    match text[at] {
+        SKIP => PartSize {
             next: at + 1,
             records: 0,
-        };
+        },
+        ASSIGN => write_assignment(text, at, nest, out),
+        SEQUENCE => write_sequence(text, at, nest, sizes, out),
+        IF => write_if(text, at, nest, sizes, out),
+        _ => write_while(text, at, nest, sizes, out),
     }
-    if byte == ASSIGN {
-        return write_assignment(text, at, nest, out);
-    }
-    if byte == SEQUENCE {
-        return write_sequence(text, at, nest, sizes, out);
-    }
-    if byte == IF {
-        return write_if(text, at, nest, sizes, out);
-    }
-    write_while(text, at, nest, sizes, out)
 }
 
 // ---- The call
 
 // The tests of `assemble` in their order: 6, reading's, 7. Gives the text's sizes.
-pub fn test(text: &[u8], out: &[u8]) -> Reading
+pub fn test(text: &[u8], out: &[u8]) -> Result<Sizes, Refusal>
     ensures { sizes_answer result
         ≡ and_then (assemble_tests text.now out.now) (λ c. gives (sizes c)) }
 {
-    let reading = text_read::read(text);
-    let Reading::Accepted(sizes) = reading else {
-        return reading;
-    };
+    let sizes = text_read::read(text)?;
     if out.len() < RECORD_BYTES * sizes.records {
-        return Reading::decline(7, 0);
+        return Err(Reason::ShortOutput.at(0));
     }
-    reading
+    Ok(sizes)
 }
 
 // The records of a text that passed the tests, at the start of the output.
@@ -195,18 +174,15 @@ pub fn write(text: &[u8], out: &mut [u8])
     ensures { (c : Command) → assemble_tests text.now out.old ≡ gives c
         → out.new ≡ over (code_bytes assembly_kind (ccomp c)) out.old }
 {
-    let mut sizes = [0; SLOTS];
+    let mut sizes = SizeCache::new();
     write_command(text, 0, text::DEEPEST, &mut sizes, out);
 }
 
 // A text's record count, D and n, and its records in the output; or a refusal, and the output as it was.
-pub fn assemble(text: &[u8], out: &mut [u8]) -> Reading
+pub fn assemble(text: &[u8], out: &mut [u8]) -> Result<Sizes, Refusal>
     ensures { (sizes_answer result, out.new) ≡ assemble text.now out.old }
 {
-    let reading = test(text, out);
-    let Reading::Accepted(_) = reading else {
-        return reading;
-    };
+    let sizes = test(text, out)?;
     write(text, out);
-    reading
+    Ok(sizes)
 }

@@ -6,6 +6,8 @@ use Prim.Native.Nat.{ℕ, ◌≤◌, ◌<◌}
 use native.Mathlib.Omega.{arith}
 use lib.Dec.{leb}
 use lib.ListN.{length, get_or}
+use mir.Syntax.{w8}
+use mir.Val.{Fits}
 use borrow.Author.Tests.{leb-true}
 use Rattle.base.specs.Answers.{gives}
 use Rattle.base.proofs.Settled.{both, settled}
@@ -29,6 +31,11 @@ pub record Copied (code t out : List ℕ) (n : ℕ) (names now : List ℕ) : Typ
   pub bytes : (i : ℕ) → get_or code i 0 < 256
   pub names_are : names ≡ inverse t 0 65
   pub copy_is : now ≡ over code out
+
+pub made : {code t out : List ℕ} {n : ℕ} {names now : List ℕ} → Passed code t out n
+    → ((i : ℕ) → Fits w8 (get_or code i 0)) → names ≡ inverse t 0 65 → now ≡ over code out
+    → Copied code t out n names now
+made p f e c = record { tests = p; bytes = λ i. (f i).fits; names_are = e; copy_is = c }
 
 module _ {code t out : List ℕ} {n : ℕ} {names now : List ℕ} (c : Copied code t out n names now) where
   long : length names ≡ 65

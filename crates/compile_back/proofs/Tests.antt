@@ -7,11 +7,11 @@ use native.Mathlib.Omega.{arith}
 use lib.Dec.{eqb, leb}
 use lib.ListN.{length, get_or, drop, drop_of_length-le}
 use borrow.Author.Tests.{eqb-true, leb-true, le-leb, lt-leb, eq-eqb, ne_eqb}
+use Rattle.std.specs.Prelude as Std
+use Rattle.std.specs.Prelude.{Result, Ok, Err, Some, None}
 use Rattle.base.specs.Answers.{Answer, gives, refused, and_then}
-use Rattle.base.specs.Code.{count_answer}
+use Rattle.base.specs.Code.{number_of, count_answer}
 use Rattle.base.specs.declared.Refusal.{Refusal}
-use Rattle.base.specs.declared.Count.{Count}
-use Rattle.base.specs.declared.Count.TheVariants.{Refused, Gives}
 use Rattle.base.proofs.Settled.{unless_passed, needed, both}
 use Rattle.record.specs.Records.{MachineCode}
 use Rattle.record.specs.Bytes.{machine_kind, code_bytes, over, record_count, whole_records, records_of}
@@ -23,8 +23,6 @@ use Rattle.compile.specs.Calls.{go_back_tests}
 use Rattle.compile.specs.Table.{named_in, is_table}
 use Rattle.compile.proofs.Passing.{entries_most}
 use Rattle.compile_table.specs.Tested.{tested}
-use Rattle.compile_table.specs.declared.Named.{Named}
-use Rattle.compile_table.specs.declared.Named.TheVariants.{Cells, NoTable}
 use Rattle.compile_table.proofs.Tested.{table_found, none_found}
 use Rattle.compile_translation.specs.Standing.{Stands}
 use Rattle.compile_back.proofs.Read.{records_stand}
@@ -38,10 +36,9 @@ pub record Tabled (code t : List ℕ) (n : ℕ) : Type 0 where
   pub passes : is_table t ≡ true
   pub count : n ≡ named_in t
 
-pub tabled : {code t : List ℕ} {found : Named} {n : ℕ} → whole_records code ≡ true → length t ≡ 64 → found ≡ tested t
-    → found ≡ Cells n → Tabled code t n
-tabled {t = t} whole long e is =
-    let both = table_found t (sym e ∙ is) in
+pub tabled : {code t : List ℕ} {n : ℕ} → whole_records code ≡ true → length t ≡ 64 → Some n ≡ tested t → Tabled code t n
+tabled {t = t} whole long e =
+    let both = table_found t (sym e) in
     record { is_whole = whole; bytes = long; passes = both.0; count = both.1 }
 
 module _ (code t out : List ℕ) where
@@ -57,30 +54,30 @@ module _ (code t out : List ℕ) where
   unfolding go_back_tests and_then
   no_bytes w h = simp (w, ne_eqb (length t) 64 h)
 
-  pub no_table : {found : Named} → whole_records code ≡ true → length t ≡ 64 → found ≡ tested t → found ≡ NoTable
-      → refused 12 0 ≡ tests
+  pub no_table : whole_records code ≡ true → length t ≡ 64 → None ≡ tested t → refused 12 0 ≡ tests
   unfolding go_back_tests and_then
-  no_table w long e is = simp (w, eq-eqb (length t) 64 long, none_found t (sym e ∙ is))
+  no_table w long e = simp (w, eq-eqb (length t) 64 long, none_found t (sym e))
 
   module _ {n : ℕ} (x : Tabled code t n) where
     -- The test of the records
-    found : {numbers : Kind} {place : ℕ} → numbers ≡ machine_numbers n
-        → Tested (kind_of numbers) code (record_count code) place
-        → Tested (machine_kind (named_in t)) code (record_count code) place
-    found {numbers} {place} e f =
+    found : {numbers : Kind} {first : Std.Option ℕ} → numbers ≡ machine_numbers n
+        → Tested (kind_of numbers) code (record_count code) first
+        → Tested (machine_kind (named_in t)) code (record_count code) first
+    found {numbers} e f =
         tested_told numbers (machine_kind (named_in t)) (rw (e, x.count) (machine_same (named_in t))) code
-        (record_count code) place f
+        (record_count code) f
 
-    pub mismatched : {numbers : Kind} {place : ℕ} → numbers ≡ machine_numbers n
-        → Tested (kind_of numbers) code (record_count code) place → place < record_count code → refused 10 place ≡ tests
+    pub mismatched : {numbers : Kind} {first : Std.Option ℕ} {place : ℕ} → numbers ≡ machine_numbers n
+        → Tested (kind_of numbers) code (record_count code) first → first ≡ Some place → refused 10 place ≡ tests
     unfolding go_back_tests and_then
-    mismatched e f h = simp (x.is_whole, eq-eqb (length t) 64 x.bytes, x.passes, (found e f).fails h)
+    mismatched {place} e f is =
+        simp (x.is_whole, eq-eqb (length t) 64 x.bytes, x.passes, ((found e f).fails place is).1)
 
-    module _ {numbers : Kind} {place : ℕ} (e : numbers ≡ machine_numbers n)
-        (f : Tested (kind_of numbers) code (record_count code) place) (h : record_count code ≤ place) where
+    module _ {numbers : Kind} {first : Std.Option ℕ} (e : numbers ≡ machine_numbers n)
+        (f : Tested (kind_of numbers) code (record_count code) first) (is : first ≡ None) where
       -- the records, and their number
       given : (P : MachineCode) × (records_of (machine_kind (named_in t)) code ≡ gives P)
-      given = (found e f).passes (omega (arith, (found e f).at_most))
+      given = (found e f).passes is
 
       size : length given.0 ≡ record_count code
       size = records_length (machine_kind (named_in t)) code 0 (record_count code) given.1
@@ -109,13 +106,14 @@ module _ (code t out : List ℕ) where
           )
 
 -- A refusal is the tests' refusal.
-pub tests_refuse : (code t out : List ℕ) {r : Count} {x : Refusal} → count_answer r ≡ tests code t out → r ≡ Refused x
-    → go_back_tests code t out ≡ refused x.number x.place
+pub tests_refuse : (code t out : List ℕ) {r : Result ℕ Refusal} {x : Refusal} → count_answer r ≡ tests code t out
+    → r ≡ Err x
+    → go_back_tests code t out ≡ refused (number_of x.reason) x.place
 unfolding and_then
 tests_refuse code t out {r} {x} e is = by (go_back_tests code t out) (sym e ∙ ap count_answer is)
   where
-    by : (a : Answer MachineCode) → and_then a (λ P. gives (named_in t)) ≡ refused x.number x.place
-        → a ≡ refused x.number x.place
+    by : (a : Answer MachineCode) → and_then a (λ P. gives (named_in t)) ≡ refused (number_of x.reason) x.place
+        → a ≡ refused (number_of x.reason) x.place
     by (gives P) e = let no : ◌≡◌ {A = ℕ} 0 1 = cc in absurd (omega arith)
     by (refused _ _) e = cc
 
@@ -132,7 +130,7 @@ pub record Passed (code t out : List ℕ) (n : ℕ) : Type 0 where
   pub room : length code ≤ length out
   pub read : records_of (machine_kind n) code ≡ gives records
 
-pub passed : (code t out : List ℕ) {r : Count} {n : ℕ} → count_answer r ≡ tests code t out → r ≡ Gives n
+pub passed : (code t out : List ℕ) {r : Result ℕ Refusal} {n : ℕ} → count_answer r ≡ tests code t out → r ≡ Ok n
     → Passed code t out n
 unfolding go_back_tests
 passed code t out {r} {n} e is =

@@ -1,6 +1,8 @@
 // The records of expressions and conditions, written into a lent buffer. Each part's writer gets the buffer from where
 // the part's records are to stand. And's left side jumps over the right side, so And's writer is told how many records
-// And has, and looks up how many the left side has (`sizes`).
+// And has, and looks up how many the left side has (`sizes`). (Text, position, nesting left, sizes and buffer are
+// no struct: the parts of a construct have the same nesting left, and each its own position and its own part of the
+// buffer, so one would be built anew for every part.)
 #![tactic(auto)]
 
 ghost use Rattle.std.specs.Prelude.{◌≡◌, ◌+◌, ◌<◌, get_or, if◌then◌else◌};
@@ -11,7 +13,7 @@ ghost use Rattle.compile_sizes.specs.Parts.{Sized};
 ghost use Rattle.compile_sizes.specs.Cache.{ConditionSizes};
 ghost use Rattle.compile_conditions.specs.Parts.{jumping, Writable, Writes};
 
-use compile_sizes::{PartSize, SLOTS, known_size, past_nots, value_size};
+use compile_sizes::{PartSize, SizeCache, known_size, past_nots, value_size};
 use record::{ADD, JMP, JMPGE, JMPLESS, LOAD, LOADI, RECORD_BYTES, put_record};
 use text_shape::{AND, BC, PLUS, VARIABLE, constant_at};
 
@@ -24,15 +26,14 @@ fn write_leaf(text: &[u8], at: usize, nest: usize, out: &mut [u8]) -> PartSize
     ensures { Writes acomp (expression text.now nest at) out.old out.new result }
 {
     if text[at] == VARIABLE {
-        put_record(out, 0, LOAD, text[at + 1] as i32);
+        put_record(out, 0, LOAD, i32::from(text[at + 1]));
         return PartSize {
             next: at + 2,
             records: 1,
         };
     }
     let constant = constant_at(text, at);
-    let value = constant.value;
-    put_record(out, 0, LOADI, value);
+    put_record(out, 0, LOADI, constant.value);
     PartSize {
         next: at + 1 + constant.width,
         records: 1,
@@ -48,16 +49,15 @@ pub fn write_expression(text: &[u8], at: usize, nest: usize, out: &mut [u8]) -> 
     if text[at] != PLUS {
         return write_leaf(text, at, nest, out);
     }
-    let first = write_side(text, at + 1, nest - 1, out);
-    let middle = first.next;
-    let n = first.records;
-    let start = RECORD_BYTES * n;
-    let second = write_side(text, middle, nest - 1, &mut out[start..]);
-    let m = n + second.records;
-    put_record(out, m, ADD, 0);
+    let inner = nest - 1;
+    let first = write_side(text, at + 1, inner, out);
+    let rest = &mut out[RECORD_BYTES * first.records..];
+    let second = write_side(text, first.next, inner, rest);
+    let sides = first.records + second.records;
+    put_record(out, sides, ADD, 0);
     PartSize {
         next: second.next,
-        records: m + 1,
+        records: sides + 1,
     }
 }
 
@@ -96,16 +96,15 @@ fn write_less(
     ensures { Writes (jumping flag distance) (condition text.now nest at) out.old
         out.new result }
 {
-    let first = write_side(text, at + 1, nest - 1, out);
-    let middle = first.next;
-    let n = first.records;
-    let start = RECORD_BYTES * n;
-    let second = write_side(text, middle, nest - 1, &mut out[start..]);
-    let m = n + second.records;
-    put_record(out, m, compare(flag), distance as i32);
+    let inner = nest - 1;
+    let first = write_side(text, at + 1, inner, out);
+    let rest = &mut out[RECORD_BYTES * first.records..];
+    let second = write_side(text, first.next, inner, rest);
+    let sides = first.records + second.records;
+    put_record(out, sides, compare(flag), distance as i32);
     PartSize {
         next: second.next,
-        records: m + 1,
+        records: sides + 1,
     }
 }
 
@@ -127,7 +126,7 @@ fn write_and(
     flag: bool,
     distance: usize,
     whole: usize,
-    sizes: &mut [u32; SLOTS],
+    sizes: &mut SizeCache,
     out: &mut [u8],
 ) -> PartSize
     requires first_byte { get_or text.now at 0 ≡ 0x22 }
@@ -138,23 +137,13 @@ fn write_and(
         out.new result }
     ensures condition_sizes_after { ConditionSizes text.now sizes.new }
 {
-    let left = known_size(text, at + 1, nest - 1, sizes);
+    let inner = nest - 1;
+    let left = known_size(text, at + 1, inner, sizes);
     let right = whole - left;
     let over = reach(flag, right, distance);
-    let first = write_condition(text, at + 1, nest - 1, false, over, left, sizes, out);
-    let middle = first.next;
-    let n = first.records;
-    let start = RECORD_BYTES * n;
-    let second = write_condition(
-        text,
-        middle,
-        nest - 1,
-        flag,
-        distance,
-        right,
-        sizes,
-        &mut out[start..],
-    );
+    let first = write_condition(text, at + 1, inner, false, over, left, sizes, out);
+    let rest = &mut out[RECORD_BYTES * first.records..];
+    let second = write_condition(text, first.next, inner, flag, distance, right, sizes, rest);
     PartSize {
         next: second.next,
         records: whole,
@@ -170,7 +159,7 @@ pub fn write_condition(
     flag: bool,
     distance: usize,
     whole: usize,
-    sizes: &mut [u32; SLOTS],
+    sizes: &mut SizeCache,
     out: &mut [u8],
 ) -> PartSize
     requires writable { Writable (jumping flag distance) distance (condition text.now nest at) out.old }
@@ -182,24 +171,20 @@ pub fn write_condition(
 {
     let bare = past_nots(text, at, nest, flag);
     let here = bare.at;
-    let byte = text[here];
-    if byte == BC {
-        if value_size(text[here + 1] == 1, bare.flag) == 0 {
-            return PartSize {
+    match text[here] {
+        BC => {
+            let records = value_size(text[here + 1] == 1, bare.flag);
+            if records == 1 {
+                put_record(out, 0, JMP, distance as i32);
+            }
+            PartSize {
                 next: here + 2,
-                records: 0,
-            };
+                records,
+            }
         }
-        put_record(out, 0, JMP, distance as i32);
-        return PartSize {
-            next: here + 2,
-            records: 1,
-        };
-    }
-    if byte == AND {
-        return write_and(
+        AND => write_and(
             text, here, bare.nest, bare.flag, distance, whole, sizes, out,
-        );
+        ),
+        _ => write_less(text, here, bare.nest, bare.flag, distance, out),
     }
-    write_less(text, here, bare.nest, bare.flag, distance, out)
 }

@@ -5,7 +5,9 @@ use mathlib.Core.List.{List}
 use lib.Dec.{eqb}
 use lib.ListN.{length}
 use borrow.Author.Tests.{eq-eqb, ne_eqb, eqb-true, le-leb, lt-leb}
+use Rattle.std.specs.Prelude.{Result, Err}
 use Rattle.base.specs.Answers.{Answer, gives, refused, and_then}
+use Rattle.base.specs.Code.{number_of}
 use Rattle.base.specs.declared.Refusal.{Refusal}
 use Rattle.base.proofs.Settled.{needed, unless_passed}
 use Rattle.text.specs.Syntax.{Command}
@@ -13,8 +15,6 @@ use Rattle.text.specs.Reading.{read_text}
 use Rattle.text.specs.Encoding.{Bytes}
 use Rattle.text.specs.Sizes.{records, sizes}
 use Rattle.text.specs.declared.Sizes.{Sizes}
-use Rattle.text.specs.declared.Reading.{Reading}
-use Rattle.text.specs.declared.Reading.TheVariants.{Refused}
 use Rattle.text.specs.Code.{sizes_answer}
 use Rattle.text.specs.Calls.{read_call}
 use Rattle.text.proofs.Opened.{read_refuses}
@@ -35,9 +35,10 @@ module _ (text code t : List ℕ) where
   tests = and_then (compile_tests text code t) (λ c. gives (sizes c))
 
   -- Reading declines,
-  pub unread : {r : Reading} {x : Refusal} → sizes_answer r ≡ read_call text → r ≡ Refused x → sizes_answer r ≡ tests
+  pub unread : {r : Result Sizes Refusal} {x : Refusal} → sizes_answer r ≡ read_call text → r ≡ Err x
+      → refused (number_of x.reason) x.place ≡ tests
   unfolding compile_tests and_then
-  unread e is = rw is (simp (read_refuses text (ap sizes_answer (sym is) ∙ e)))
+  unread e is = simp (read_refuses text (ap sizes_answer (sym is) ∙ e))
 
   module _ {c : Command} (e : read_text text ≡ gives c) where
     -- or the table has not 64 bytes,

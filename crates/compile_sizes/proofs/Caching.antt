@@ -1,85 +1,131 @@
 -- What is looked up in a cache of sizes is right, and the cache stays right when the size of a condition is noted that
 -- was measured with some nesting left: what is read there does not depend on that (text, Same).
-use mathlib.Core.Path.{◌≡◌, refl, sym, ap, ◌∙◌}
-use mathlib.Core.Bool.{Bool, true, false}
-use mathlib.Core.List.{List}
-use Prim.Native.Nat.{ℕ, ◌+◌, ◌*◌, ◌/◌, ◌%◌, ◌<◌, ◌≤◌}
-use native.Mathlib.Omega.{arith}
-use lib.Dec.{eqb, ltb}
-use lib.ListN.{get_or, set}
-use borrow.Author.Tests.{eq-eqb, ne_eqb, eqb-true, lt-ltb, le-ltb, ltb-true, ltb-false}
-use Rattle.std.specs.Prelude.{if◌then◌else◌}
+use Rattle.std.proofs.Common.{◌≡◌, ◌∙◌, sym, ap, List, ℕ, ◌%◌, Bool, true, false, ◌⊎◌, inl, inr, refl, Option, Some}
+use Rattle.std.proofs.Common.{None, set, get_or, length, replicate, arith, subst, ◌≤◌, ◌<◌}
+use native.Mathlib.Decide.{ℕ_discrete}
+use lib.Dec.{ltb}
+use lib.ListN.{get_or-replicate, get_or-eq_default, length-replicate}
+use lib.Seq.{set_out, get_or-set_same, get_or-set_other}
+use borrow.Author.Tests.{eq-eqb, ne_eqb, lt-ltb, le-ltb, ltb-true, ltb-false}
+use Rattle.std.proofs.lemmas.Bool.Decides.{nat_tests}
 use Rattle.text.specs.Encoding.{Bytes}
 use Rattle.text.specs.Reading.{condition}
 use Rattle.text.proofs.Same.{same_condition}
-use Rattle.text_shape.proofs.Caching.{stays_set}
 use Rattle.compile_sizes.specs.Parts.{Countable, Counts, Sized}
-use Rattle.compile_sizes.specs.Cache.{looked_up, size_noted, ConditionSizes}
+use Rattle.compile_sizes.specs.Cache.{records_at, looked_up, size_noted, ConditionSizes}
+use Rattle.compile_sizes.specs.declared.Measured.{Measured}
 use Rattle.compile_sizes.specs.declared.PartSize.{PartSize}
+use Rattle.compile_sizes.specs.declared.SizeCache.{SizeCache}
 use Rattle.compile_sizes.proofs.Counting.{size}
 
--- ---- What is looked up, by whose the slot is
+-- ---- What is looked up
 
-module _ (cache : List ℕ) (i : ℕ) {entry : ℕ} (e : entry ≡ get_or cache (i % 64) 0) where
-  pub found : entry / 65536 ≡ i → entry % 65536 ≡ looked_up cache i
-  unfolding looked_up
-  found h = simp (sym e, eq-eqb (entry / 65536) i h)
+-- of a slot
+of_slot : (i : ℕ) (slot : Option Measured) {records : ℕ} → records_at i slot ≡ Some records
+    → (known : Measured) × ((slot ≡ Some known) × ((known.at ≡ i) × (known.records ≡ records)))
+of_slot i None e = grind arith
+of_slot i (Some known) e = (known, (refl, grind (arith, nat_tests)))
 
-  pub missing : (entry / 65536 ≡ i → ⊥) → 0 ≡ looked_up cache i
-  unfolding looked_up
-  missing h = simp (sym e, ne_eqb (entry / 65536) i h)
+pub known : {text : List ℕ} {cache : SizeCache} → ConditionSizes text cache → (i nest : ℕ) {records : ℕ}
+    → looked_up cache i ≡ Some records → Sized (size false) (condition text nest i) records
+unfolding looked_up
+known right i nest e b n read =
+    let o = of_slot i _ e in
+    sym o.1.1.1 ∙ right.right _ _ o.1.0 nest b n (rw o.1.1.0 read)
 
--- ---- What is noted, by the room for it
+-- ---- What is noted
 
-module _ (cache : List ℕ) (i value : ℕ) where
-  pub noted_in : i < 65536 → value < 65536 → set cache (i % 64) (i * 65536 + value) ≡ size_noted cache i value
+-- what stands in a slot was put there now, or stood there before (past the end nothing is put)
+put : {A : Type 0} (xs : List (Option A)) (i j : ℕ) (new found : A) → get_or (set xs i (Some new)) j None ≡ Some found
+    → (found ≡ new) ⊎ (get_or xs j None ≡ Some found)
+put xs i j new found e = by (ltb i (length xs)) refl (ℕ_discrete j i)
+  where
+    by : (t : Bool) → ltb i (length xs) ≡ t → Dec (j ≡ i) → (found ≡ new) ⊎ (get_or xs j None ≡ Some found)
+    by true t (yes q) =
+        let is : get_or (set xs i (Some new)) j None ≡ Some new =
+        rw q (get_or-set_same xs i (Some new) None (ltb-true _ _ t)) in
+        let same : Some found ≡ Some new = sym e ∙ is in
+        inl (grind (arith, same))
+    by true t (no q) = inr (sym (get_or-set_other xs i j (Some new) None q) ∙ e)
+    by false t w = inr (rw (sym (set_out xs i (Some new) (ltb-false _ _ t))) e)
+
+-- by the room for it
+module _ (cache : SizeCache) (i records : ℕ) where
+  abbrev entered : SizeCache
+  entered = record { slots = set cache.slots (i % 64) (Some (record { at = i; records = records })) }
+
+  pub noted_in : i < 65536 → records < 65536 → entered ≡ size_noted cache i records
   unfolding size_noted
-  noted_in h l = simp (lt-ltb i 65536 h, lt-ltb value 65536 l)
+  noted_in h l = simp (lt-ltb i 65536 h, lt-ltb records 65536 l)
 
-  pub noted_large : i < 65536 → 65536 ≤ value → cache ≡ size_noted cache i value
+  pub noted_large : i < 65536 → 65536 ≤ records → cache ≡ size_noted cache i records
   unfolding size_noted
-  noted_large h l = simp (lt-ltb i 65536 h, le-ltb value 65536 l)
+  noted_large h l = simp (lt-ltb i 65536 h, le-ltb records 65536 l)
 
-  pub noted_far : 65536 ≤ i → cache ≡ size_noted cache i value
+  pub noted_far : 65536 ≤ i → cache ≡ size_noted cache i records
   unfolding size_noted
   noted_far h = simp (le-ltb i 65536 h)
 
--- ---- It is right
-
--- of a slot that has this position or another
-of_slot : (text : List ℕ) {sizes : List ℕ} (right : ConditionSizes text sizes) (i nest : ℕ) {value : ℕ} (t : Bool)
-    → eqb (get_or sizes (i % 64) 0 / 65536) i ≡ t → value ≡ (if t then get_or sizes (i % 64) 0 % 65536 else 0)
-    → (value ≡ 0 → ⊥) → Sized (λ b. size false b + 1) (condition text nest i) value
-of_slot text {sizes} right i nest true t e some b n read =
-    let entry = get_or sizes (i % 64) 0 in
-    let here : entry / 65536 ≡ i = eqb-true (entry / 65536) i t in
-    e ∙ right.right (i % 64) (λ z. some (omega (arith, e, z))) nest b n (rw here read)
-of_slot text right i nest false t e some b n read = absurd (some e)
-
--- What is looked up of a position, and is not 0, is the size of every condition that is read there.
-pub known : (text : List ℕ) {sizes : List ℕ} (right : ConditionSizes text sizes) (i nest : ℕ) {value : ℕ}
-    → value ≡ looked_up sizes i → (value ≡ 0 → ⊥) → Sized (λ b. size false b + 1) (condition text nest i) value
-unfolding looked_up
-known text {sizes} right i nest e some = of_slot text right i nest (eqb (get_or sizes (i % 64) 0 / 65536) i) refl e some
-
-pub stays_right : (text : List ℕ) (nest i : ℕ) {sizes : List ℕ} {t : PartSize} → Bytes text → ConditionSizes text sizes
-    → Countable (size false) (condition text nest i)
-    → Counts (size false) (condition text nest i) t
-    → ConditionSizes text (size_noted sizes i (t.records + 1))
-stays_right text nest i {sizes} {t} small right q c = by (ltb i 65536) refl (ltb (t.records + 1) 65536) refl
+pub stays_right : (text : List ℕ) (nest i : ℕ) {cache : SizeCache} {t : PartSize} → Bytes text
+    → ConditionSizes text cache → Countable (size false) (condition text nest i)
+    → Counts (size false) (condition text nest i) t → ConditionSizes text (size_noted cache i t.records)
+stays_right text nest i {cache} {t} small right q c =
+    by (ltb i 65536) refl (ltb t.records 65536) refl
   where
-    sized : (other : ℕ) → Sized (λ b. size false b + 1) (condition text other i) (t.records + 1)
+    sized : (other : ℕ) → Sized (size false) (condition text other i) t.records
     sized other b n e =
         let same = same_condition text small nest other i q.is e in
-        ap (λ (k : ℕ). k + 1) ((c _ _ q.is).1 ∙ ap (size false) same)
+        (c _ _ q.is).1 ∙ ap (size false) same
 
-    by : (u : Bool) → ltb i 65536 ≡ u → (v : Bool) → ltb (t.records + 1) 65536 ≡ v
-        → ConditionSizes text (size_noted sizes i (t.records + 1))
+    slot_right : (slot : ℕ) {known : Measured}
+        → (known ≡ record { at = i; records = t.records }) ⊎ (get_or cache.slots slot None ≡ Some known)
+        → (other : ℕ) → Sized (size false) (condition text other known.at) known.records
+    slot_right slot (inl e) other = rw e (sized other)
+    slot_right slot (inr e) other = right.right _ _ e other
+
+    by : (u : Bool) → ltb i 65536 ≡ u → (v : Bool) → ltb t.records 65536 ≡ v
+        → ConditionSizes text (size_noted cache i t.records)
     by true u true v =
-        let value = t.records + 1 in
-        let position : (i * 65536 + value) / 65536 ≡ i = omega (arith, ltb-true value 65536 v) in
-        let rest : (i * 65536 + value) % 65536 ≡ value = omega (arith, ltb-true value 65536 v) in
-        rw (sym (noted_in sizes i value (ltb-true _ _ u) (ltb-true _ _ v)))
-        (stays_set right (i % 64) (i * 65536 + value) (λ _ other. rw (position, rest) (sized other)))
-    by true u false v = rw (sym (noted_large sizes i (t.records + 1) (ltb-true _ _ u) (ltb-false _ _ v))) right
-    by false u w v = rw (sym (noted_far sizes i (t.records + 1) (ltb-false _ _ u))) right
+        subst (ConditionSizes text) (noted_in cache i t.records (ltb-true _ _ u) (ltb-true _ _ v))
+        (record {
+          right = λ slot known e. slot_right slot (put cache.slots (i % 64) slot (record {
+            at = i;
+            records = t.records;
+          }) known e);
+        })
+    by true u false v =
+        subst (ConditionSizes text) (noted_large cache i t.records (ltb-true _ _ u) (ltb-false _ _ v)) right
+    by false u w v = subst (ConditionSizes text) (noted_far cache i t.records (ltb-false _ _ u)) right
+
+-- ---- Nothing
+
+abbrev empty : ℕ → List (Option Measured)
+empty n = replicate n None
+
+pub knows_nothing : (text : List ℕ) (n : ℕ) → ConditionSizes text (record { slots = empty n })
+knows_nothing text n = record { right = λ slot known e. absurd (some (nothing n slot (ltb slot n) refl) e) }
+  where
+    nothing : (n slot : ℕ) (t : Bool) → ltb slot n ≡ t → get_or (empty n) slot None ≡ None
+    nothing n slot true t = get_or-replicate n slot None None (ltb-true _ _ t)
+    nothing n slot false t =
+        get_or-eq_default (empty n) None (omega (arith, ltb-false _ _ t, length-replicate {A = Option Measured} n None))
+
+    some : {o : Option Measured} {known : Measured} → o ≡ None → o ≡ Some known → ⊥
+    some e f = grind (arith, e, f)
+
+-- ---- What looking up tells
+
+module _ (cache : SizeCache) (i : ℕ) where
+  pub found : (entry : Measured) → get_or cache.slots (i % 64) None ≡ Some entry → entry.at ≡ i
+      → Some entry.records ≡ looked_up cache i
+  unfolding looked_up
+  found entry e same = rw e (simp (eq-eqb entry.at i same))
+
+  pub other : (entry : Measured) → get_or cache.slots (i % 64) None ≡ Some entry → (entry.at ≡ i → ⊥)
+      → None ≡ looked_up cache i
+  unfolding looked_up
+  other entry e differs = rw e (simp (ne_eqb entry.at i differs))
+
+  pub missing : get_or cache.slots (i % 64) None ≡ None → None ≡ looked_up cache i
+  unfolding looked_up
+  missing e = rw e refl

@@ -1,9 +1,9 @@
 // How many records an expression or a condition has, as it stands in a text. And's left side is asked for again when
-// the condition is written, so measuring remembers it in a cache, `sizes`: of a condition's position one more than the
-// records that it has under false.
+// the condition is written, so measuring remembers it in a cache, `sizes`: of a condition's position the records that
+// it has under false.
 #![tactic(auto)]
 
-ghost use Rattle.std.specs.Prelude.{ℕ, ◌+◌, ◌≤◌, ◌≡◌, false, length, get_or, if◌then◌else◌};
+ghost use Rattle.std.specs.Prelude.{List, ℕ, ◌+◌, ◌≤◌, ◌≡◌, false, length, get_or, if◌then◌else◌};
 ghost use Rattle.std.specs.Bool.{beq};
 ghost use Rattle.base.specs.Acts.{ok};
 ghost use Rattle.text.specs.Syntax.{Condition};
@@ -26,33 +26,54 @@ pub struct PartSize {
 
 // ---- The cache
 
-// How many conditions a cache of sizes has room for. (A slot has a position in its upper half, a size in its lower.)
+// How many conditions a cache of sizes has room for.
 pub const SLOTS: usize = 64;
 
-fn wide(entry: u32) -> usize
-    ensures { result ≡ entry }
-{
-    entry as usize
+// A condition that was measured: where it stands, and how many records it has under false. (Each in 16 bits: a cache is
+// cleared for every text.)
+#[derive(Clone, Copy)]
+pub struct Measured {
+    pub at: u16,
+    pub records: u16,
 }
 
-// What a cache knows of a position, 0 for nothing.
-fn look_up(sizes: &[u32; SLOTS], at: usize) -> usize
-    ensures { result ≡ looked_up sizes.now at }
-{
-    let entry = wide(sizes[at % SLOTS]);
-    if entry / 0x10000 == at {
-        return entry % 0x10000;
+// A cache of sizes: in each slot a condition that was measured, or nothing. (It does not hold the text that it speaks
+// of: a cache that did would need a clause everywhere that says that its text stays the same.)
+#[derive(Clone, Copy)]
+pub struct SizeCache {
+    pub slots: [Option<Measured>; SLOTS],
+}
+
+impl SizeCache {
+    // A cache that knows nothing yet, and so nothing wrong of any text.
+    pub fn new() -> SizeCache
+        ensures { (text : List ℕ) → ConditionSizes text result }
+    {
+        SizeCache {
+            slots: [None; SLOTS],
+        }
     }
-    0
-}
 
-// Notes a value of a position in the position's slot, whatever stood there.
-fn note_size(sizes: &mut [u32; SLOTS], at: usize, value: usize)
-    ensures { sizes.new ≡ size_noted sizes.old at value }
-{
-    if at < 0x10000 {
-        if value < 0x10000 {
-            sizes[at % SLOTS] = (at * 0x10000 + value) as u32;
+    // What it knows of a position.
+    fn look_up(&self, at: usize) -> Option<usize>
+        ensures { result ≡ looked_up self.now at }
+    {
+        let slot = self.slots[at % SLOTS];
+        match slot {
+            Some(known) if usize::from(known.at) == at => Some(usize::from(known.records)),
+            _ => None,
+        }
+    }
+
+    // Notes the size of a position in the position's slot, whatever stood there, if both have 16 bits.
+    fn note(&mut self, at: usize, records: usize)
+        ensures { self.new ≡ size_noted self.old at records }
+    {
+        if at < 0x10000 && records < 0x10000 {
+            self.slots[at % SLOTS] = Some(Measured {
+                at: at as u16,
+                records: records as u16,
+            });
         }
     }
 }
@@ -66,8 +87,7 @@ fn two_sizes(text: &[u8], at: usize, nest: usize) -> PartSize
     ensures { Counts expression_records (expression_parts text.now nest plus at) result }
 {
     let first = expression_size(text, at + 1, nest);
-    let middle = first.next;
-    let second = expression_size(text, middle, nest);
+    let second = expression_size(text, first.next, nest);
     PartSize {
         next: second.next,
         records: first.records + second.records + 1,
@@ -115,11 +135,7 @@ fn expression_size(text: &[u8], at: usize, nest: usize) -> PartSize
 pub fn value_size(value: bool, flag: bool) -> usize
     ensures { result ≡ (if beq value flag then 1 else 0) }
 {
-    if value {
-        if flag { 1 } else { 0 }
-    } else {
-        if flag { 0 } else { 1 }
-    }
+    usize::from(value == flag)
 }
 
 // A condition without the Nots in front of it: where it stands, the nesting left for it, and the flag that it is
@@ -151,17 +167,17 @@ pub fn past_nots(text: &[u8], start: usize, deepest: usize, under: bool) -> Bare
 // How many records an And has under a flag: its left side's under false, and its right side's under the flag. The left
 // side's are remembered.
 #[cycle(both_size_condition_size)]
-fn both_size(text: &[u8], at: usize, nest: usize, flag: bool, sizes: &mut [u32; SLOTS]) -> PartSize
+fn both_size(text: &[u8], at: usize, nest: usize, flag: bool, sizes: &mut SizeCache) -> PartSize
     requires first_byte { get_or text.now at 0 ≡ 0x22 }
     requires countable { Countable (λ b. condition_records b flag) (condition text.now nest at) }
     requires condition_sizes { ConditionSizes text.now sizes.old }
     ensures counts { Counts (λ b. condition_records b flag) (condition text.now nest at) result }
     ensures condition_sizes_after { ConditionSizes text.now sizes.new }
 {
-    let first = condition_size(text, at + 1, nest - 1, false, sizes);
-    let middle = first.next;
-    note_size(sizes, at + 1, first.records + 1);
-    let second = condition_size(text, middle, nest - 1, flag, sizes);
+    let inner = nest - 1;
+    let first = condition_size(text, at + 1, inner, false, sizes);
+    sizes.note(at + 1, first.records);
+    let second = condition_size(text, first.next, inner, flag, sizes);
     PartSize {
         next: second.next,
         records: first.records + second.records,
@@ -184,7 +200,7 @@ pub fn condition_size(
     at: usize,
     nest: usize,
     flag: bool,
-    sizes: &mut [u32; SLOTS],
+    sizes: &mut SizeCache,
 ) -> PartSize
     requires countable { Countable (λ b. condition_records b flag) (condition text.now nest at) }
     requires condition_sizes { ConditionSizes text.now sizes.old }
@@ -193,30 +209,25 @@ pub fn condition_size(
 {
     let bare = past_nots(text, at, nest, flag);
     let here = bare.at;
-    let byte = text[here];
-    if byte == BC {
-        return PartSize {
+    match text[here] {
+        BC => PartSize {
             next: here + 2,
             records: value_size(text[here + 1] == 1, bare.flag),
-        };
+        },
+        AND => both_size(text, here, bare.nest, bare.flag, sizes),
+        _ => less_size(text, here, bare.nest, bare.flag),
     }
-    if byte == AND {
-        return both_size(text, here, bare.nest, bare.flag, sizes);
-    }
-    less_size(text, here, bare.nest, bare.flag)
 }
 
 // How many records a condition has under false: looked up where it is known, and measured where it is not.
-pub fn known_size(text: &[u8], at: usize, nest: usize, sizes: &mut [u32; SLOTS]) -> usize
+pub fn known_size(text: &[u8], at: usize, nest: usize, sizes: &mut SizeCache) -> usize
     requires countable { Countable (λ b. condition_records b false) (condition text.now nest at) }
     requires condition_sizes { ConditionSizes text.now sizes.old }
     ensures sized { Sized (λ b. condition_records b false) (condition text.now nest at) result }
     ensures condition_sizes_after { ConditionSizes text.now sizes.new }
 {
-    let known = look_up(sizes, at);
-    if known != 0 {
-        return known - 1;
+    match sizes.look_up(at) {
+        Some(records) => records,
+        None => condition_size(text, at, nest, false, sizes).records,
     }
-    let part = condition_size(text, at, nest, false, sizes);
-    part.records
 }

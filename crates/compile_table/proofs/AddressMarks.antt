@@ -3,13 +3,12 @@ use mathlib.Core.Path.{◌≡◌, refl, sym, ap, ◌∙◌}
 use mathlib.Core.Bool.{Bool, true, false, ◌||◌}
 use mathlib.Core.List.{List, [], ◌∷◌}
 use Prim.Native.Nat.{ℕ, zero, suc, ◌^◌, ◌≤◌, ◌<◌}
-use native.Mathlib.Nat.{lt_of_lt_of_le}
 use native.Mathlib.Decide.{dec_lt}
 use native.Mathlib.Omega.{arith}
 use lib.Bits.{or_lt}
 use lib.Dec.{eqb, ltb, lit<, eqb-zero-suc, eqb-suc-suc}
 use lib.ListN.{length}
-use lib.Pow.{pow-lt, pow_mono, ones_lt}
+use lib.Pow.{pow-lt}
 use borrow.Author.Tests.{ltb-true, ltb-false, lt-ltb, le-ltb, ne_eqb}
 use Rattle.std.specs.Prelude.{if◌then◌else◌}
 use Rattle.compile.specs.Table.{times, named_in, is_table}
@@ -98,11 +97,6 @@ module _ (t : List ℕ) (size : length t ≡ 64) where
       stand zero l m = absurd (omega arith)
       stand (suc b) l m = (set_stands t b (h b ∙ lt-ltb b (named_in t) (omega arith))).1
 
-  lowest_small : lowest (named_in t) < 2 ^ 64
-  lowest_small =
-      let most : named_in t ≤ 64 = omega arith in
-      lt_of_lt_of_le (ones_lt (named_in t)) (pow_mono most)
-
 pub word_test : WordTest
 word_test t size =
     record {
@@ -111,7 +105,7 @@ word_test t size =
       passes = (bits_lowest t size, lowest_pass t size);
       as_a_whole = (
         λ h.
-            same_bits 64 (address_marks t) (lowest (named_in t)) (address_marks_small t) (lowest_small t size)
+            same_bits (address_marks t) (lowest (named_in t))
             (λ b. bits_lowest t size h b ∙ sym (bit_lowest (named_in t) b)),
         λ e. lowest_pass t size (λ b. ap (λ w. bit w b) e ∙ bit_lowest (named_in t) b),
       );

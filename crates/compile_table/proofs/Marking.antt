@@ -9,10 +9,11 @@ use lib.Dec.{lit<}
 use lib.ListN.{length, get_or, drop, drop_of_length-le}
 use lib.Seq.{drop-cons}
 use borrow.Author.Tests.{eq-eqb, ne_eqb, lt-ltb, le-ltb}
+use Rattle.std.proofs.lemmas.Nat.{one_shl}
 use Rattle.compile.specs.Table.{times, named_in}
 use Rattle.compile_table.specs.AddressMarks.{address_bit, address_marks}
-use Rattle.compile_table.proofs.Bits.{one_shifted, or_assoc}
-use Rattle.compile_table.proofs.AddressMarks.{address_bit_small, address_marks_small}
+use Rattle.compile_table.proofs.Bits.{or_assoc}
+use Rattle.compile_table.proofs.AddressMarks.{address_bit_small}
 
 -- The entries before v are seen: with the address marks of the others the word has those of all.
 pub record Seen (t : List ℕ) (word n v : ℕ) : Type 0 where
@@ -36,8 +37,7 @@ module _ {t : List ℕ} {word n v : ℕ} (i : Seen t word n v) (h : v < length t
   with_bit : bit_or (bit_or word (address_bit x)) (address_marks (drop (v + 1) t)) ≡ address_marks t
   unfolding address_marks
   with_bit =
-      or_assoc 64 word (address_bit x) (address_marks (drop (v + 1) t)) i.fits (address_bit_small x)
-      (address_marks_small (drop (v + 1) t))
+      or_assoc word (address_bit x) (address_marks (drop (v + 1) t))
       ∙ sym (ap (λ l. bit_or word (address_marks l)) next)
       ∙ i.marked
 
@@ -76,7 +76,7 @@ module _ {t : List ℕ} {word n v : ℕ} (i : Seen t word n v) (h : v < length t
     seen_address l =
         let low : x - 1 < 64 = omega (arith, e) in
         let shifted : address_bit x ≡ 1 * 2 ^ (x - 1) % 2 ^ 64 =
-        ap address_bit (sym before) ∙ simp (lt-ltb (x - 1) 64 low) (sym (one_shifted (x - 1) low)) in
+        ap address_bit (sym before) ∙ simp (lt-ltb (x - 1) 64 low) (sym (one_shl (x - 1) 64 low)) in
         record {
           most = omega arith;
           few = omega (arith, i.few);

@@ -4,15 +4,15 @@
 use mathlib.Core.Path.{◌≡◌, refl, sym, ap, ◌∙◌, subst}
 use mathlib.Core.Bool.{Bool, true, false, ◌||◌, ◌&&◌}
 use mathlib.Core.List.{List, [], ◌∷◌}
-use mathlib.Core.Logic.{◌⊎◌, inl, inr}
-use mathlib.Core.Option.{Option, none, some}
+use mathlib.Core.Option as maybe
+use mathlib.Core.Option.{none, some}
 use Prim.Native.Nat.{ℕ, zero, suc, ◌+◌, ◌-◌, ◌*◌, ◌<◌, ◌≤◌}
 use native.Mathlib.Omega.{arith}
 use lib.Dec.{eqb, leb}
 use lib.IntN.{ℤ}
 use lib.ListN.{length, get_or, get_elem?, drop, drop_of_length-le}
 use borrow.Author.Tests.{eqb-true, eq-eqb, ne_eqb, leb-true}
-use Rattle.std.specs.Prelude.{if◌then◌else◌}
+use Rattle.std.specs.Prelude.{if◌then◌else◌, Option, Some, None}
 use Rattle.base.proofs.Settled.{both}
 use Rattle.word.specs.Numbers.{number_at}
 use Rattle.record.specs.Records.{Record, LOADI, JMP, JMPLESS, JMPGE, MachineCode, named, address}
@@ -33,16 +33,17 @@ others : (n : ℕ) (z : ℤ) (r : Record Address) (a b c d e : Bool)
     → record_of (machine_kind n) (if a then loadi else if b then add else if c then jmp else
     if d then jmpless else if e then jmpge else unknown) z ≡ some r → named r ≡ none
 unfolding record_of
-others n z r true b c d e h = let is : LOADI z ≡ r = cc in ap {B = Option Address} named (sym is)
-others n z r false true c d e h = ap {B = Option Address} named (as_add (is_zero z) h)
-others n z r false false true d e h = let is : JMP z ≡ r = cc in ap {B = Option Address} named (sym is)
-others n z r false false false true e h = let is : JMPLESS z ≡ r = cc in ap {B = Option Address} named (sym is)
-others n z r false false false false true h = let is : JMPGE z ≡ r = cc in ap {B = Option Address} named (sym is)
+others n z r true b c d e h = let is : LOADI z ≡ r = cc in ap {B = maybe.Option Address} named (sym is)
+others n z r false true c d e h = ap {B = maybe.Option Address} named (as_add (is_zero z) h)
+others n z r false false true d e h = let is : JMP z ≡ r = cc in ap {B = maybe.Option Address} named (sym is)
+others n z r false false false true e h = let is : JMPLESS z ≡ r = cc in ap {B = maybe.Option Address} named (sym is)
+others n z r false false false false true h = let is : JMPGE z ≡ r = cc in ap {B = maybe.Option Address} named (sym is)
 others n z r false false false false false h = none_some r h
 
--- What an address from the bytes of a record says of it
-abbrev Tells : ℕ → Record Address → ℕ → Type 0
-Tells n r a = ((named r ≡ none) × (a ≡ 0)) ⊎ ((named r ≡ some (address a)) × (0 < a) × (a ≤ n))
+-- What the answer from the bytes of a record says of it
+abbrev Tells : ℕ → Record Address → Option Address → Type 0
+Tells n r None = named r ≡ none
+Tells n r (Some a) = (named r ≡ some a) × (0 < a.0) × (a.0 ≤ n)
 
 module _ (code : List ℕ) (n i : ℕ) (few : n ≤ 64) (r : Record Address)
     (there : record_at (machine_kind n) code i ≡ some r) where
@@ -55,29 +56,27 @@ module _ (code : List ℕ) (n i : ℕ) (few : n ≤ 64) (r : Record Address)
   small : (u : ℕ) → (machine_kind n).is_name u ≡ true → u < 256
   small u e = omega (arith, address_at_most n u e)
 
-  tells_name : (machine_kind n).is_name low ≡ true → named r ≡ some (address low) → Tells n r low
-  tells_name e f = inr (f, leb-true 1 low (both (leb 1 low) (leb low n) e).0, address_at_most n low e)
+  tells_name : (machine_kind n).is_name low ≡ true → named r ≡ some (address low) → Tells n r (Some (address low))
+  tells_name e f = (f, leb-true 1 low (both (leb 1 low) (leb low n) e).0, address_at_most n low e)
 
-  tells : Tells n r (address_at code i).0
+  tells : Tells n r (address_at code i)
   unfolding address_at operation
   tells = by (eqb byte 0x51) (eqb byte 0x53) refl refl
     where
-      by : (l s : Bool) → eqb byte 0x51 ≡ l → eqb byte 0x53 ≡ s → Tells n r (if l || s then low else 0)
+      by : (l s : Bool) → eqb byte 0x51 ≡ l → eqb byte 0x53 ≡ s
+          → Tells n r (if l || s then Some (address low) else None)
       by true s e f =
           let o : operation 0x50 byte ≡ load = ap (operation 0x50) (eqb-true byte 0x51 e) in
           let x = is_load (machine_kind n) code i r there small o in
-          tells_name x.0 (ap {B = Option Address} named x.1)
+          tells_name x.0 (ap {B = maybe.Option Address} named x.1)
       by false true e f =
           let o : operation 0x50 byte ≡ store = ap (operation 0x50) (eqb-true byte 0x53 f) in
           let x = is_store (machine_kind n) code i r there small o in
-          tells_name x.0 (ap {B = Option Address} named x.1)
+          tells_name x.0 (ap {B = maybe.Option Address} named x.1)
       by false false e f =
           let z = number_at code (5 * i + 1) in
-          inl (
-            others n z r (eqb byte 0x50) (eqb byte 0x52) (eqb byte 0x54) (eqb byte 0x55) (eqb byte 0x56)
-                (rw (e, f) at there),
-            refl,
-          )
+          others n z r (eqb byte 0x50) (eqb byte 0x52) (eqb byte 0x54) (eqb byte 0x55) (eqb byte 0x56)
+          (rw (e, f) at there)
 
 -- ---- One record more in front of Q
 
@@ -91,55 +90,44 @@ unfolding mentions in_order
 none_seen = record { ordered = refl; all = refl }
 
 module _ (r : Record Address) (Q : MachineCode) {seen : ℕ} (s : Sighted Q seen) where
-  -- it names nothing
+  -- It names nothing,
   names_none : named r ≡ none → Sighted (r ∷ Q) seen
   names_none e =
       let same = mentions_none (λ a. a.0) r Q e in
       record { ordered = ap in_order same ∙ s.ordered; all = ap length same ∙ s.all }
 
-  module _ {a : ℕ} (e : named r ≡ some (address a)) where
-    grown : (b : Bool) → member a (addresses Q) ≡ b
-        → addresses (r ∷ Q) ≡ (if b then addresses Q else a ∷ addresses Q)
+  module _ {a : Address} (e : named r ≡ some a) where
+    grown : (b : Bool) → member a.0 (addresses Q) ≡ b
+        → addresses (r ∷ Q) ≡ (if b then addresses Q else a.0 ∷ addresses Q)
     grown b m =
-        mentions_one (λ a. a.0) r Q e ∙ ap (λ (b : Bool). if b then addresses Q else a ∷ addresses Q) m
+        mentions_one (λ a. a.0) r Q e ∙ ap (λ (b : Bool). if b then addresses Q else a.0 ∷ addresses Q) m
 
     -- an address that was seen before,
-    names_again : 0 < a → a ≤ seen → Sighted (r ∷ Q) seen
+    names_again : 0 < a.0 → a.0 ≤ seen → Sighted (r ∷ Q) seen
     names_again l m =
-        let same = grown true (member_low (addresses Q) a s.ordered l (omega (arith, s.all))) in
+        let same = grown true (member_low (addresses Q) a.0 s.ordered l (omega (arith, s.all))) in
         record { ordered = ap in_order same ∙ s.ordered; all = ap length same ∙ s.all }
 
     -- the next one,
-    above : seen < a → addresses (r ∷ Q) ≡ a ∷ addresses Q
-    above l = grown false (member_high (addresses Q) a s.ordered (omega (arith, s.all)))
+    above : seen < a.0 → addresses (r ∷ Q) ≡ a.0 ∷ addresses Q
+    above l = grown false (member_high (addresses Q) a.0 s.ordered (omega (arith, s.all)))
 
-    names_next : a ≡ seen + 1 → Sighted (r ∷ Q) (seen + 1)
+    names_next : a.0 ≡ seen + 1 → Sighted (r ∷ Q) (seen + 1)
     unfolding in_order
     names_next q =
         let same = above (omega arith) in
         record {
           ordered = ap in_order same
-              ∙ simp (eq-eqb a (suc (length (addresses Q))) (omega (arith, s.all)), s.ordered);
+              ∙ simp (eq-eqb a.0 (suc (length (addresses Q))) (omega (arith, s.all)), s.ordered);
           all = ap length same ∙ omega (arith, s.all);
         }
 
     -- or one out of order
-    names_other : seen < a → (a ≡ seen + 1 → ⊥) → in_order (addresses (r ∷ Q)) ≡ false
+    names_other : seen < a.0 → (a.0 ≡ seen + 1 → ⊥) → in_order (addresses (r ∷ Q)) ≡ false
     unfolding in_order
     names_other l differs =
         ap in_order (above l)
-        ∙ simp (ne_eqb a (suc (length (addresses Q))) (λ q. differs (omega (arith, s.all))))
-
-  -- nothing new
-  names_old : {n a : ℕ} → Tells n r a → a ≤ seen → Sighted (r ∷ Q) seen
-  names_old (inl (e, z)) m = names_none e
-  names_old (inr (e, l, h)) m = names_again e l m
-
--- An address above those seen is named.
-is_new : {n a seen : ℕ} (r : Record Address) → Tells n r a → seen < a
-    → (named r ≡ some (address a)) × (a ≤ n)
-is_new r (inl (e, z)) l = absurd (omega arith)
-is_new r (inr (e, p, h)) l = (e, h)
+        ∙ simp (ne_eqb a.0 (suc (length (addresses Q))) (λ q. differs (omega (arith, s.all))))
 
 -- Records in front of others keep the others' addresses in their order.
 behind : (r : Record Address) (Q : MachineCode) → in_order (addresses Q) ≡ false → in_order (addresses (r ∷ Q)) ≡ false
@@ -155,7 +143,7 @@ behind r Q e = by (named r) refl
         front true = e
         front false = refl
 
-    by : (o : Option Address) → named r ≡ o → in_order (addresses (r ∷ Q)) ≡ false
+    by : (o : maybe.Option Address) → named r ≡ o → in_order (addresses (r ∷ Q)) ≡ false
     by none f = ap in_order (mentions_none (λ a. a.0) r Q f) ∙ e
     by (some a) f = first (member a.0 (addresses Q)) a.0 (mentions_one (λ a. a.0) r Q f)
 
@@ -190,44 +178,46 @@ module _ {code : List ℕ} {count n : ℕ} (x : Passed code count n) where
       ap (λ k. eqb k n) (sym t.all) ∙ simp t.ordered
 
   -- The record in front of them: its bytes tell what it names
-  record InFront (i a : ℕ) : Type 0 where
+  record InFront (i : ℕ) (o : Option Address) : Type 0 where
     one : Record Address
     stands : drop (i - 1) x.records ≡ one ∷ drop i x.records
-    told : Tells n one a
+    told : Tells n one o
 
-  in_front : {i : ℕ} {a : Address} → 0 < i → i ≤ count → a ≡ address_at code (i - 1) → InFront i a.0
+  in_front : {i : ℕ} {o : Option Address} → 0 < i → i ≤ count → o ≡ address_at code (i - 1) → InFront i o
   in_front {i} l m e =
       let d = record_due (machine_kind n) code x.records count (i - 1) x.given (omega arith) in
       let next : suc (i - 1) ≡ i = omega arith in
       record {
         one = d.due;
         stands = drop_one x.records (i - 1) d.due d.listed ∙ ap (λ i. d.due ∷ drop i x.records) next;
-        told = subst (λ a. Tells n d.due a.0) (sym e) (tells code n (i - 1) x.few d.due d.there);
+        told = subst (λ o. Tells n d.due o) (sym e) (tells code n (i - 1) x.few d.due d.there);
       }
 
-  module _ {i seen : ℕ} {a : Address} (s : Seen i seen) (l : 0 < i) (m : i ≤ count)
-      (e : a ≡ address_at code (i - 1)) where
-    f : InFront i a.0
-    f = in_front l m e
+  module _ {i seen : ℕ} (s : Seen i seen) (l : 0 < i) (m : i ≤ count) where
+    one_more : {o : Option Address} (f : InFront i o) {k : ℕ} → Sighted (f.one ∷ drop i x.records) k → Seen (i - 1) k
+    one_more f {k} = subst (λ Q. Sighted Q k) (sym f.stands)
 
-    one_more : {k : ℕ} → Sighted (f.one ∷ drop i x.records) k → Seen (i - 1) k
-    one_more {k} = subst (λ Q. Sighted Q k) (sym f.stands)
+    -- It names nothing,
+    pub seen_none : None ≡ address_at code (i - 1) → Seen (i - 1) seen
+    seen_none e = let f = in_front l m e in one_more f (names_none f.one _ s f.told)
 
-    -- nothing new,
-    pub seen_old : a.0 ≤ seen → Seen (i - 1) seen
-    seen_old h = one_more (names_old f.one _ s f.told h)
+    module _ {a : Address} (e : Some a ≡ address_at code (i - 1)) where
+      f : InFront i (Some a)
+      f = in_front l m e
 
-    -- the next address,
-    pub seen_next : a.0 ≡ seen + 1 → Seen (i - 1) (seen + 1)
-    seen_next q =
-        let h : seen < a.0 = omega arith in
-        one_more (names_next f.one _ s (is_new f.one f.told h).0 q)
+      -- an address that was seen before,
+      pub seen_again : a.0 ≤ seen → Seen (i - 1) seen
+      seen_again h = one_more f (names_again f.one _ s f.told.0 f.told.1 h)
 
-    pub seen_most : seen < a.0 → a.0 ≤ n
-    seen_most h = (is_new f.one f.told h).1
+      -- the next address,
+      pub seen_next : a.0 ≡ seen + 1 → Seen (i - 1) (seen + 1)
+      seen_next q = one_more f (names_next f.one _ s f.told.0 q)
 
-    -- or one out of order
-    pub seen_other : seen < a.0 → (a.0 ≡ seen + 1 → ⊥) → false ≡ agrees x.records n
-    seen_other h differs =
-        let here = names_other f.one _ s (is_new f.one f.told h).0 h differs in
-        simp (out_of_order x.records (i - 1) (ap (λ Q. in_order (addresses Q)) f.stands ∙ here))
+      pub seen_most : a.0 ≤ n
+      seen_most = f.told.2
+
+      -- or one out of order
+      pub seen_other : seen < a.0 → (a.0 ≡ seen + 1 → ⊥) → false ≡ agrees x.records n
+      seen_other h differs =
+          let here = names_other f.one _ s f.told.0 h differs in
+          simp (out_of_order x.records (i - 1) (ap (λ Q. in_order (addresses Q)) f.stands ∙ here))

@@ -14,7 +14,7 @@ use Rattle.record.specs.declared.Variable.{Variable}
 use Rattle.record_test.proofs.Testing.{assembly_same, machine_same}
 use Rattle.compile.specs.Table.{vars, addr_of}
 use Rattle.compile.proofs.Entries.{length_entries, table_at}
-use Rattle.compile_translation.specs.Standing.{Stands, Holds, Renamed, Renames}
+use Rattle.compile_translation.specs.Standing.{Stands, Holds, Renamed}
 use Rattle.compile_translation.specs.Translated.{Numbered, Translated}
 use Rattle.compile_translation.proofs.Numbers.{plainly, renamed}
 
@@ -22,11 +22,7 @@ module _ {P : AssemblyCode} {n : ℕ} {t : List ℕ} (x : Numbered P n t) where
   long : length t ≡ 64
   long = ap length x.table_is ∙ length_entries (vars P) 0 64
 
-  -- The table serves for the names of assembly,
-  pub table_renames : Renames assembly_numbers (machine_numbers n) t
-  table_renames = record { inside = omega (arith, long); few = omega (arith, long); byte = omega arith }
-
-  -- and an entry is the address.
+  -- An entry is the address.
   entry : (v : Variable) → NameFits assembly_kind v → get_or t v.0 0 ≡ addr_of (vars P) v.0
   entry v f =
       let small : v.0 < 64 = omega (arith, leb-true v.0 63 f.0) in

@@ -1,4 +1,3 @@
-pub mod Directions
 pub mod Standing
 pub mod Steps
 pub mod Translated

@@ -1,8 +1,8 @@
 -- What the steps of translating do, on bytes and on a table.
 use Rattle.std.specs.Prelude.{ℕ, ◌+◌, ◌-◌, ◌*◌, Bool, ◌||◌, List, eqb, get_or, set, if◌then◌else◌}
+use Rattle.std.specs.Prelude.{Option, Some, None}
 use Rattle.record.specs.Records.{variable}
-use Rattle.compile_translation.specs.declared.Mention.{Mention}
-use Rattle.compile_translation.specs.declared.Mention.TheVariants.{Of, Nothing}
+use Rattle.record.specs.declared.Variable.{Variable}
 
 -- LOAD and STORE, by their numbers
 abbrev pub has_name : ℕ → Bool
@@ -16,9 +16,9 @@ renamed_front from to names code =
     if has_name number then set first 1 (get_or names (get_or first 1 0) 0) else first
 
 -- The variable that the assembly record at an index names
-unfoldable pub mention_at : List ℕ → ℕ → Mention
+unfoldable pub mention_at : List ℕ → ℕ → Option Variable
 mention_at code i =
-    if has_name (get_or code (5 * i) 0 - 0x40) then Of (variable (get_or code (5 * i + 1) 0)) else Nothing
+    if has_name (get_or code (5 * i) 0 - 0x40) then Some (variable (get_or code (5 * i + 1) 0)) else None
 
 -- n variables have addresses in a table; variable v gets the next one, if it has none
 unfoldable pub addressed : ℕ → ℕ → List ℕ → ℕ × List ℕ

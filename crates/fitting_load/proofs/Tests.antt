@@ -1,6 +1,6 @@
 -- The tests of both calls: the answer to which each of the code's tests leads, and what holds where the answer is n.
-use mathlib.Core.Path.{◌≡◌, sym, ◌∙◌, ap}
-use mathlib.Core.Bool.{true, false}
+use mathlib.Core.Path.{◌≡◌, refl, sym, ◌∙◌, ap}
+use mathlib.Core.Bool.{Bool, true, false}
 use mathlib.Core.List.{List}
 use Prim.Native.Nat.{ℕ, ◌+◌, ◌≤◌, ◌<◌}
 use native.Mathlib.Omega.{arith}
@@ -8,13 +8,18 @@ use lib.Dec.{leb}
 use lib.IntN.{ℤ, pos}
 use lib.ListN.{length, replicate}
 use borrow.Author.Tests.{eqb-true, leb-true, le-leb, lt-leb, eq-eqb, ne_eqb}
+use Rattle.std.specs.Prelude.{Option, Some, None, Result, if◌then◌else◌, ok_or}
 use Rattle.base.specs.Answers.{gives, refused, unless◌refuse◌at◌else◌, and_then}
+use Rattle.base.specs.Code.{count_answer, refusal_at}
+use Rattle.base.specs.declared.Reason.TheVariants.{NoTable}
+use Rattle.base.specs.declared.Refusal.{Refusal}
 use Rattle.base.proofs.Answers.{gives_one}
 use Rattle.base.proofs.Settled.{unless_passed, needed, both}
 use Rattle.source.specs.Rules.{Store}
 use Rattle.machine.specs.Calls.{memory_fits}
-use Rattle.compile.specs.Table.{is_table}
+use Rattle.compile.specs.Table.{is_table, named_in}
 use Rattle.compile.proofs.Passing.{entries_most}
+use Rattle.compile_table.specs.Tested.{tested}
 use Rattle.fitting.specs.Loading.{fill, loaded}
 use Rattle.fitting.specs.Calls.{table_tests, pod_tests}
 use Rattle.fitting.proofs.Calls.{Tabled, tabled}
@@ -32,15 +37,18 @@ module _ (t : List ℕ) (store : Store) where
   unfolding table_tests
   no_cells e h = simp (eq-eqb (length t) 64 e, ne_eqb (length store) 64 h)
 
-  pub no_table : length t ≡ 64 → length store ≡ 64 → is_table t ≡ false → refused 12 0 ≡ table_tests t store
-  unfolding table_tests
-  no_table e f h = simp (eq-eqb (length t) 64 e, eq-eqb (length store) 64 f, h)
-
-  pub named : {n : ℕ} → Tabled t store n → gives n ≡ table_tests t store
-  unfolding table_tests
-  named x =
-      ap gives x.count
-      ∙ sym (simp (eq-eqb (length t) 64 x.bytes, eq-eqb (length store) 64 x.cells, x.passes))
+  -- and what the code finds of the table last
+  pub named : {o : Option ℕ} {r : Result ℕ Refusal} {why : Refusal} → length t ≡ 64 → length store ≡ 64 → o ≡ tested t
+      → why ≡ refusal_at NoTable 0 → r ≡ ok_or o why → count_answer r ≡ table_tests t store
+  unfolding table_tests tested
+  named e f found is made =
+      ap count_answer (made ∙ (λ i. ok_or (found i) (is i))) ∙ by (is_table t)
+      ∙ sym (simp (eq-eqb (length t) 64 e, eq-eqb (length store) 64 f))
+    where
+      by : (b : Bool) → count_answer (ok_or (if b then Some (named_in t) else None) (refusal_at NoTable 0))
+          ≡ (unless b refuse 12 at 0 else gives (named_in t))
+      by true = refl
+      by false = refl
 
 -- ---- And a memory
 

@@ -5,10 +5,9 @@ use mathlib.Core.Bool.{true, false}
 use mathlib.Core.List.{List}
 use lib.ListN.{length}
 use borrow.Author.Tests.{le-leb, lt-leb}
+use Rattle.std.specs.Prelude.{Result, Ok, Err}
 use Rattle.base.specs.Answers.{Answer, gives, refused, and_then}
-use Rattle.base.specs.Code.{count_answer}
-use Rattle.base.specs.declared.Count.{Count}
-use Rattle.base.specs.declared.Count.TheVariants.{Refused, Gives}
+use Rattle.base.specs.Code.{number_of, count_answer}
 use Rattle.base.specs.declared.Refusal.{Refusal}
 use Rattle.base.proofs.Settled.{needed, refused_first}
 use Rattle.text.specs.Sizes.{sized}
@@ -30,9 +29,9 @@ module _ (code : List ℕ) (n D : ℕ) (whole : whole_records code ≡ true) whe
   all_tests : code_tests code n true ≡ and_then (records_of (machine_kind n) code) (λ P. gives P)
   all_tests = rw whole
 
-  pub no_record : {r : Count} {why : Refusal} → r ≡ Refused why
+  pub no_record : {r : Result ℕ Refusal} {why : Refusal} → r ≡ Err why
       → count_answer r ≡ number_given (code_tests code n true)
-      → refused why.number why.place ≡ pair_tests code n D
+      → refused (number_of why.reason) why.place ≡ pair_tests code n D
   unfolding and_then
   no_record is e =
       let no = refused_first (records_of (machine_kind n) code) (λ P. P)
@@ -45,7 +44,7 @@ module _ (code : List ℕ) (n D : ℕ) (whole : whole_records code ≡ true) whe
     pub given : records_of (machine_kind n) code ≡ gives records
     pub all : length records ≡ count
 
-  pub counted_records : {r : Count} {count : ℕ} → r ≡ Gives count
+  pub counted_records : {r : Result ℕ Refusal} {count : ℕ} → r ≡ Ok count
       → count_answer r ≡ number_given (code_tests code n true) → Counted count
   counted_records is e =
       let c = counted (code_tests code n true) is e in

@@ -4,51 +4,45 @@
 
 ghost use Rattle.std.specs.Prelude.{◌≡◌, true, List, ℕ, ◌+◌, ◌≤◌, pos, replicate};
 ghost use Rattle.base.specs.Answers.{gives};
-ghost use Rattle.base.specs.Code.{run_answer};
+ghost use Rattle.base.specs.Code.{told_run, run_answer};
 ghost use Rattle.text.specs.Code.{sizes_answer};
 ghost use Rattle.source.specs.Calls.{run_source};
 ghost use Rattle.record.specs.Bytes.{whole_records};
 ghost use Rattle.fitting.specs.Paired.{pair_tests, paired_tests, run_paired, ByCompiler};
 
-use base::{Count, Run};
+use base::{Ended, Reason, Refusal};
 use machine_step::Machine;
-use text::{Reading, Sizes};
+use text::Sizes;
 
 // The tests of whole records with the table's n, in their order: 10, 14, 11. Gives the record count, D and n.
-fn test_pair(code: &[u8], n: usize, depth: u64) -> Reading
+fn test_pair(code: &[u8], n: usize, depth: u64) -> Result<Sizes, Refusal>
     requires { (whole_records code.now ≡ true) × (n ≤ 64) }
     ensures { sizes_answer result ≡ pair_tests code.now n depth }
 {
-    match record_test::test_machine(code, n as u64, true) {
-        Count::Refused(refusal) => Reading::Refused(refusal),
-        Count::Gives(count) => {
-            if !compile_table::agrees(code, count, n) {
-                return Reading::decline(14, 0);
-            }
-            if (Machine::STACK_CELLS as u64) < depth {
-                return Reading::decline(11, 0);
-            }
-            Reading::Accepted(Sizes {
-                records: count,
-                depth: depth as usize,
-                cells: n,
-            })
-        }
+    let count = record_test::test_machine(code, n as u64, true)?;
+    if !compile_table::agrees(code, count, n) {
+        return Err(Reason::NoPair.at(0));
     }
+    if (Machine::STACK_CELLS as u64) < depth {
+        return Err(Reason::WrongMemory.at(0));
+    }
+    Ok(Sizes {
+        records: count,
+        depth: depth as usize,
+        cells: n,
+    })
 }
 
 // The call's tests, in their order: 9, 8, 12, 10, 14, 11. Gives the record count, D and n.
-pub fn test(code: &[u8], table: &[u8], store: &[i32], depth: u64) -> Reading
+pub fn test(code: &[u8], table: &[u8], store: &[i32], depth: u64) -> Result<Sizes, Refusal>
     ensures { sizes_answer result
         ≡ paired_tests code.now table.now store.now depth }
 {
     if !record_test::is_whole(code) {
-        return Reading::decline(9, 0);
+        return Err(Reason::NotWhole.at(0));
     }
-    match fitting_load::test_table(table, store) {
-        Count::Refused(refusal) => Reading::Refused(refusal),
-        Count::Gives(n) => test_pair(code, n, depth),
-    }
+    let n = fitting_load::test_table(table, store)?;
+    test_pair(code, n, depth)
 }
 
 // Loads the store into zeros, runs tested code from a fresh machine, and reads back, whatever the end.
@@ -59,35 +53,37 @@ fn load_run_read(
     memory: &mut [i32],
     sizes: Sizes,
     budget: u32,
-) -> Run
+) -> Ended
     requires tested { paired_tests code.now table.now store.old sizes.depth ≡ gives sizes }
     requires memory_zeros { memory.old ≡ replicate (sizes.depth + 1 + sizes.cells) (pos 0) }
-    ensures { (run_answer result, store.new)
+    ensures { (gives (told_run result), store.new)
         ≡ run_paired code.now table.now store.old sizes.depth budget }
 {
     let depth = sizes.depth;
     fitting_load::to_memory(table, store, depth, memory);
-    let run = machine_run::run_tested(code, memory, depth, sizes.records, budget);
+    let ended = machine_run::run_tested(code, memory, depth, sizes.records, budget);
     fitting_load::to_store(table, memory, depth, store);
-    run
+    ended
 }
 
 // Tests that the table's n and the addresses in the code agree, loads the store into a memory of its own, runs the code
 // from a fresh machine with D = `depth`, and reads back into the store, whatever the end. Refuses 9, 8, 12, 10, 14, 11
 // (D above 64). Given what compile wrote of a text and the D that it gave, the answer and the store are those of
 // run_source (demand 3).
-pub fn run_paired(code: &[u8], table: &[u8], store: &mut [i32], depth: u64, budget: u32) -> Run
+pub fn run_paired(
+    code: &[u8],
+    table: &[u8],
+    store: &mut [i32],
+    depth: u64,
+    budget: u32,
+) -> Result<Ended, Refusal>
     ensures store_after { (run_answer result, store.new)
         ≡ run_paired code.now table.now store.old depth budget }
     ensures of_compiled { (text : List ℕ) → ByCompiler text code.now table.now depth
         → run_source text store.old budget ≡ (run_answer result, store.new) }
 {
-    match test(code, table, store, depth) {
-        Reading::Refused(refusal) => Run::Refused(refusal),
-        Reading::Accepted(sizes) => {
-            let mut memory = [0; Machine::MEMORY_CELLS];
-            let size = sizes.depth + 1 + sizes.cells;
-            load_run_read(code, table, store, &mut memory[..size], sizes, budget)
-        }
-    }
+    let sizes = test(code, table, store, depth)?;
+    let mut memory = [0; Machine::MEMORY_CELLS];
+    let size = sizes.depth + 1 + sizes.cells;
+    Ok(load_run_read(code, table, store, &mut memory[..size], sizes, budget))
 }

@@ -12,12 +12,17 @@ ghost use Rattle.machine.specs.Calls.{run_assembly};
 ghost use Rattle.compile.specs.Calls.{assemble, go_back};
 ghost use Rattle.fitting.specs.Rows.{assembly_buffers, assemble_and_run, back_buffers, compile_and_go_back};
 
-use base::{Count, Run};
+use base::{Ended, Refusal};
 use record::RECORD_BYTES;
-use text::Reading;
 
 // Runs the first records of the code.
-fn run_records(code: &[u8], count: usize, store: &mut [i32], stack: &mut [i32], budget: u32) -> Run
+fn run_records(
+    code: &[u8],
+    count: usize,
+    store: &mut [i32],
+    stack: &mut [i32],
+    budget: u32,
+) -> Result<Ended, Refusal>
     requires { 5 * count ≤ length code.now }
     ensures { (run_answer result, record { stack = stack.new; store = store.new })
         ≡ run_assembly (take (5 * count) code.now)
@@ -35,7 +40,7 @@ pub fn assemble_and_run(
     store: &mut [i32],
     stack: &mut [i32],
     budget: u32,
-) -> Run
+) -> Result<Ended, Refusal>
     ensures row { (
       run_answer result,
       assembly_buffers code.new (record { stack = stack.new; store = store.new }),
@@ -48,14 +53,12 @@ pub fn assemble_and_run(
         → length stack.old ≡ depth c → length store.old ≡ 64
         → run_source text.now store.old budget ≡ (run_answer result, store.new) }
 {
-    match compile_assembly::assemble(text, code) {
-        Reading::Refused(refusal) => Run::Refused(refusal),
-        Reading::Accepted(sizes) => run_records(code, sizes.records, store, stack, budget),
-    }
+    let sizes = compile_assembly::assemble(text, code)?;
+    run_records(code, sizes.records, store, stack, budget)
 }
 
 // Goes back from the first records of the code.
-fn go_back_from(code: &[u8], count: usize, table: &[u8], out: &mut [u8]) -> Count
+fn go_back_from(code: &[u8], count: usize, table: &[u8], out: &mut [u8]) -> Result<usize, Refusal>
     requires { 5 * count ≤ length code.now }
     ensures { (count_answer result, out.new)
         ≡ go_back (take (5 * count) code.now) table.now out.old }
@@ -66,7 +69,12 @@ fn go_back_from(code: &[u8], count: usize, table: &[u8], out: &mut [u8]) -> Coun
 
 // Compiles a text and goes back from the records and the table written. For an accepted text and buffers with room, the
 // answer is the record count, and the output is what assemble leaves in it.
-pub fn compile_and_go_back(text: &[u8], code: &mut [u8], table: &mut [u8], out: &mut [u8]) -> Count
+pub fn compile_and_go_back(
+    text: &[u8],
+    code: &mut [u8],
+    table: &mut [u8],
+    out: &mut [u8],
+) -> Result<usize, Refusal>
     ensures row { (count_answer result, back_buffers code.new table.new out.new)
         ≡ compile_and_go_back text.now
         (back_buffers code.old table.old out.old) }
@@ -76,8 +84,6 @@ pub fn compile_and_go_back(text: &[u8], code: &mut [u8], table: &mut [u8], out: 
         → ◌≡◌ {A = Answer ℕ × List ℕ} (count_answer result, out.new)
         (gives (records c), (assemble text.now out.old).1) }
 {
-    match compile_machine::compile(text, code, table) {
-        Reading::Refused(refusal) => Count::Refused(refusal),
-        Reading::Accepted(sizes) => go_back_from(code, sizes.records, table, out),
-    }
+    let sizes = compile_machine::compile(text, code, table)?;
+    go_back_from(code, sizes.records, table, out)
 }

@@ -3,25 +3,29 @@
 
 ghost use Rattle.std.specs.Prelude.{◌≡◌, length};
 ghost use Rattle.base.specs.Answers.{gives, and_then};
-ghost use Rattle.base.specs.Code.{run_answer, preview_answer, count_answer};
+ghost use Rattle.base.specs.Code.{told_run, preview_answer, count_answer};
 ghost use Rattle.fitting.specs.Calls.{preview_tests, preview_machine};
 
-use base::{Count, Preview, Run, VARIABLES, copy_cells};
+use base::{Ended, Preview, Reason, Refusal, VARIABLES, copy_over};
 use machine_step::Machine;
 
 // The preview's tests, in their order: 9, 8, 12, 10, 11. Gives the number of records.
-pub fn test(code: &[u8], memory: &[i32], depth: u64, table: &[u8], store: &[i32]) -> Count
+pub fn test(
+    code: &[u8],
+    memory: &[i32],
+    depth: u64,
+    table: &[u8],
+    store: &[i32],
+) -> Result<usize, Refusal>
     ensures { count_answer result
         ≡ and_then (preview_tests code.now memory.now depth
         table.now store.now) (λ P. gives (length P)) }
 {
     if !record_test::is_whole(code) {
-        return Count::decline(9, 0);
+        return Err(Reason::NotWhole.at(0));
     }
-    match fitting_load::test_table(table, store) {
-        Count::Refused(refusal) => Count::Refused(refusal),
-        Count::Gives(n) => machine_run::test(code, memory, depth, n as u64),
-    }
+    let n = fitting_load::test_table(table, store)?;
+    machine_run::test(code, memory, depth, n as u64)
 }
 
 // Runs tested code on a copy of the memory, and reads back over the store.
@@ -34,18 +38,18 @@ fn run_on_copy(
     table: &[u8],
     store: &mut [i32],
     budget: u32,
-) -> Run
+) -> Ended
     requires tested { and_then (preview_tests code.now memory.now depth table.now store.old) (λ P. gives (length P))
         ≡ gives last }
     requires memory_len { length memory.now ≡ length copy.old }
-    ensures { (run_answer result, store.new)
+    ensures { (gives (told_run result), store.new)
         ≡ preview_machine code.now memory.now depth
         table.now store.old budget }
 {
-    copy_cells(memory, copy);
-    let run = machine_run::run_tested(code, copy, depth, last, budget);
+    copy_over(memory, copy);
+    let ended = machine_run::run_tested(code, copy, depth, last, budget);
     fitting_load::to_store(table, copy, depth, store);
-    run
+    ended
 }
 
 // What run_machine on a copy of the memory tells, with the table's n, and what read_back from there leaves of a copy of
@@ -64,13 +68,13 @@ pub fn preview_machine(
     ensures lent_kept { (memory.exit.now ≡ memory.entry.now) × (store.exit.now ≡ store.entry.now) }
 {
     match test(code, memory, depth, table, store) {
-        Count::Refused(refusal) => Preview::decline(refusal),
-        Count::Gives(last) => {
+        Err(refusal) => Preview::decline(refusal),
+        Ok(last) => {
             let mut copy = [0; Machine::MEMORY_CELLS];
             let mut cells = [0; VARIABLES];
-            copy_cells(store, &mut cells);
+            copy_over(store, &mut cells);
             let size = memory.len();
-            let run = run_on_copy(
+            let ended = run_on_copy(
                 code,
                 memory,
                 &mut copy[..size],
@@ -80,7 +84,10 @@ pub fn preview_machine(
                 &mut cells,
                 budget,
             );
-            Preview { run, store: cells }
+            Preview {
+                run: Ok(ended),
+                store: cells,
+            }
         }
     }
 }

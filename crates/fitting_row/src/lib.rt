@@ -12,9 +12,9 @@ ghost use Rattle.fitting.specs.Rows.{buffers, load_run_read, fit};
 ghost use Rattle.fitting.specs.Demand3.{Ready};
 ghost use Rattle.fitting_row.specs.Rests.{from_running};
 
-use base::{Count, Run};
+use base::{Ended, Refusal};
 use record::RECORD_BYTES;
-use text::{Reading, Sizes};
+use text::Sizes;
 
 // Runs the records written, from a fresh machine, and reads back into the store.
 fn run_and_read_back(
@@ -24,7 +24,7 @@ fn run_and_read_back(
     store: &mut [i32],
     sizes: Sizes,
     budget: u32,
-) -> Run
+) -> Result<Ended, Refusal>
     requires { 5 * sizes.records ≤ length code.now }
     ensures { (
       run_answer result,
@@ -36,15 +36,9 @@ fn run_and_read_back(
     let size = RECORD_BYTES * sizes.records;
     let depth = sizes.depth as u64;
     let cells = sizes.cells as u64;
-    match machine_run::run_machine(&code[..size], memory, depth, cells, budget).without_state() {
-        Run::Refused(refusal) => Run::Refused(refusal),
-        Run::Ended { end, count, mark } => {
-            match fitting_load::read_back(table, memory, depth, store) {
-                Count::Refused(refusal) => Run::Refused(refusal),
-                Count::Gives(_) => Run::Ended { end, count, mark },
-            }
-        }
-    }
+    let piece = machine_run::run_machine(&code[..size], memory, depth, cells, budget)?;
+    fitting_load::read_back(table, memory, depth, store)?;
+    Ok(piece.without_state())
 }
 
 // Loads the store, whatever the memory held, and goes on.
@@ -55,7 +49,7 @@ fn load_and_run(
     store: &mut [i32],
     sizes: Sizes,
     budget: u32,
-) -> Run
+) -> Result<Ended, Refusal>
     requires { 5 * sizes.records ≤ length code.now }
     ensures { (
       run_answer result,
@@ -64,10 +58,8 @@ fn load_and_run(
         ≡ answered (load_run_read sizes budget
         (buffers code.now table.now memory.old store.old)) }
 {
-    match fitting_load::load(table, store, sizes.depth as u64, memory) {
-        Count::Refused(refusal) => Run::Refused(refusal),
-        Count::Gives(_) => run_and_read_back(code, table, memory, store, sizes, budget),
-    }
+    fitting_load::load(table, store, sizes.depth as u64, memory)?;
+    run_and_read_back(code, table, memory, store, sizes, budget)
 }
 
 // The four calls in a row on lent buffers: compiles the text, loads the store, runs the records written from a fresh
@@ -80,7 +72,7 @@ pub fn fit(
     memory: &mut [i32],
     store: &mut [i32],
     budget: u32,
-) -> Run
+) -> Result<Ended, Refusal>
     ensures row { (
       run_answer result,
       buffers code.new table.new memory.new store.new,
@@ -92,8 +84,6 @@ pub fn fit(
         memory.old store.old
         → run_source text.now store.old budget ≡ (run_answer result, store.new) }
 {
-    match compile_machine::compile(text, code, table) {
-        Reading::Refused(refusal) => Run::Refused(refusal),
-        Reading::Accepted(sizes) => load_and_run(code, table, memory, store, sizes, budget),
-    }
+    let sizes = compile_machine::compile(text, code, table)?;
+    load_and_run(code, table, memory, store, sizes, budget)
 }

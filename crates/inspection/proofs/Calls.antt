@@ -10,12 +10,11 @@ use borrow.Author.Tests.{le-leb, leb-true, eq-eqb}
 use lib.Dec.{leb}
 use lib.IntN.{ℤ}
 use lib.ListN.{length}
+use Rattle.std.specs.Prelude.{Result, Ok, Err}
 use Rattle.base.specs.Answers.{Answer, gives, refused, and_then}
-use Rattle.base.specs.Code.{count_answer}
+use Rattle.base.specs.Code.{number_of, count_answer}
 use Rattle.base.specs.Ends.{report}
 use Rattle.base.specs.declared.Refusal.{Refusal}
-use Rattle.base.specs.declared.Count.{Count}
-use Rattle.base.specs.declared.Count.TheVariants.{Refused, Gives}
 use Rattle.base.proofs.Answers.{gives_one}
 use Rattle.base.proofs.Settled.{not_both, unless_passed, needed, both}
 use Rattle.text.specs.Syntax.{Command}
@@ -48,9 +47,9 @@ use Rattle.inspection.proofs.Soundness.{sound}
 
 module _ (code : List ℕ) (D n : ℕ) where
   -- A refusal of the code's is theirs.
-  pub refused_tests : {r : Count} {why : Refusal} → r ≡ Refused why
+  pub refused_tests : {r : Result ℕ Refusal} {why : Refusal} → r ≡ Err why
       → count_answer r ≡ number_given (inspect_tests code D n)
-      → inspect_tests code D n ≡ refused why.number why.place
+      → inspect_tests code D n ≡ refused (number_of why.reason) why.place
   refused_tests is e = refused_by (inspect_tests code D n) is e
 
   -- The tests that were passed where they give records
@@ -77,7 +76,8 @@ module _ (code : List ℕ) (D n : ℕ) where
     pub code_is : CodeFound (machine_kind n) code records last
     pub deep : D ≤ 64
 
-  pub inspect_found : {r : Count} {last : ℕ} → r ≡ Gives last → count_answer r ≡ number_given (inspect_tests code D n)
+  pub inspect_found : {r : Result ℕ Refusal} {last : ℕ} → r ≡ Ok last
+      → count_answer r ≡ number_given (inspect_tests code D n)
       → InspectFound last
   inspect_found is e =
       let c = counted (inspect_tests code D n) is e in

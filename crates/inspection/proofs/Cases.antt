@@ -10,7 +10,7 @@ use lib.ListN.{length, get_or, get_elem?}
 use Rattle.base.specs.Answers.{and_then}
 use Rattle.word.specs.Numbers.{number_of, number_at}
 use Rattle.word.specs.Targets.{within, target}
-use Rattle.word.specs.declared.Target.TheVariants.{To}
+use Rattle.std.specs.Prelude.{Some}
 use Rattle.record.specs.Records.{Record, MachineCode, LOADI, ADD, STORE, JMP, JMPGE, address}
 use Rattle.record.specs.Bytes.{operation, name_of, option_map, is_zero, record_of, in_front, records_from}
 use Rattle.record.specs.declared.Address.{Address}
@@ -29,7 +29,7 @@ module _ (D : ℕ) (P : MachineCode) (h : ℕ → ℕ) (In : ℕ → Type 0) whe
     enough : (effect r).takes ≤ h p
     room : height_after r (h p) ≤ D
     ways : (taken : Bool)
-        → (q : ℕ) × (successor (length P) p r taken ≡ To q) × (h q ≡ height_after r (h p)) × In q
+        → (q : ℕ) × (successor (length P) p r taken ≡ Some q) × (h q ≡ height_after r (h p)) × In q
 
   -- a record that is known to stand there
   kept_at : (p : ℕ) {r s : Record Address} → some r ≡ some s → Kept p r → Kept p s
@@ -85,7 +85,7 @@ around_kept (suc (suc zero)) r i e = kept_at 2 around to_2 Any 2 e record {
   room = omega arith;
   ways = λ (taken : Bool).
       elim taken as (λ (k : Bool).
-      (q : ℕ) × (successor {Name = Address} (length around) 2 (JMPGE (negsuc 2)) k ≡ To q)
+      (q : ℕ) × (successor {Name = Address} (length around) 2 (JMPGE (negsuc 2)) k ≡ Some q)
       × (to_2 q ≡ height_after {Name = Address} (JMPGE (negsuc 2)) 2) × Any q) [
         | true ↦ (0, refl, refl, tt)
         | false ↦ (3, refl, refl, tt)

@@ -11,7 +11,7 @@ use lib.IntN.{ℤ, pos, negsuc, ◌+ℤ◌}
 use lib.ListN.{length, get_elem?}
 use Rattle.std.specs.Prelude.{if◌then◌else◌}
 use Rattle.word.specs.Targets.{target}
-use Rattle.word.specs.declared.Target.TheVariants.{To}
+use Rattle.std.specs.Prelude.{Some}
 use Rattle.text.specs.Sizes.{expression_depth, condition_depth, depth}
 use Rattle.text.specs.Syntax.{Expression, Constant, Variable, Plus, Condition, Bc, Not, And, Less, Command, SKIP}
 use Rattle.text.specs.Syntax.{◌:=◌, ◌⨾◌, IF◌THEN◌ELSE◌, WHILE◌DO◌}
@@ -148,7 +148,7 @@ module _ (P : AssemblyCode) (D : ℕ) where
 
   -- a record that only steps on
   steps : (p : ℕ) (r : Record VariableNumber) → get_elem? P p ≡ some r
-      → ((taken : Bool) → successor (length P) p r taken ≡ To (suc p)) → (effect r).takes ≤ h p
+      → ((taken : Bool) → successor (length P) p r taken ≡ Some (suc p)) → (effect r).takes ≤ h p
       → height_after r (h p) ≤ D → RightAt p r
   steps p r e l t d = record { enough = t; room = d; ways = λ taken. (suc p, l taken, next p r e) }
 
@@ -179,7 +179,7 @@ module _ (P : AssemblyCode) (D : ℕ) where
         ways =
             λ (taken : Bool).
             elim taken as (λ (k : Bool).
-            (y : ℕ) × (successor (length P) r (comparing true (pos i)) k ≡ To y)
+            (y : ℕ) × (successor (length P) r (comparing true (pos i)) k ≡ Some y)
             × (h y ≡ height_after (comparing true (pos i)) (h r))) [
               | true ↦ (q + i, target_on i r q (length P) z b, omega arith)
               | false ↦ (suc r, refl, next r (JMPLESS (pos i)) e)
@@ -192,7 +192,7 @@ module _ (P : AssemblyCode) (D : ℕ) where
         ways =
             λ (taken : Bool).
             elim taken as (λ (k : Bool).
-            (y : ℕ) × (successor (length P) r (comparing false (pos i)) k ≡ To y)
+            (y : ℕ) × (successor (length P) r (comparing false (pos i)) k ≡ Some y)
             × (h y ≡ height_after (comparing false (pos i)) (h r))) [
               | true ↦ (q + i, target_on i r q (length P) z b, omega arith)
               | false ↦ (suc r, refl, next r (JMPGE (pos i)) e)
@@ -200,7 +200,7 @@ module _ (P : AssemblyCode) (D : ℕ) where
       }
 
   -- a jump from r to q, with the stack empty at both
-  jumps : (i : ℤ) (r q : ℕ) → target r i (length P) ≡ To q → h r ≡ 0 → h q ≡ 0 → RightAt r (JMP i)
+  jumps : (i : ℤ) (r q : ℕ) → target r i (length P) ≡ Some q → h r ≡ 0 → h q ≡ 0 → RightAt r (JMP i)
   unfolding effect leads
   jumps i r q e x y =
       record { enough = omega arith; room = omega arith; ways = λ taken. (q, e, omega arith) }

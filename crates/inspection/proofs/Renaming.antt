@@ -6,8 +6,8 @@ use mathlib.Core.Bool.{Bool}
 use mathlib.Core.List.{List, [], ◌∷◌, map}
 use mathlib.Core.Option.{some}
 use lib.ListN.{length, length-map, get_elem?}
-use Rattle.word.specs.declared.Target.{Target}
-use Rattle.word.specs.declared.Target.TheVariants.{To, Astray}
+use Rattle.std.specs.Prelude.{Some, None}
+use Rattle.word.specs.Targets.{Target}
 use Rattle.record.specs.Records.{Record, LOADI, LOAD, ADD, STORE, JMP, JMPLESS, JMPGE, rename}
 use Rattle.inspection.specs.Heights.{effect, leads, successor, Reached, first, step, Heights}
 
@@ -49,7 +49,7 @@ module _ {X Y : Type 0} (f : X → Y) where
     back p (first) = first
     back p (step {p = p₀} {r = s} taken w e l) =
         let x = from P p₀ s e in
-        step taken (back p₀ w) x.there (led p₀ s x taken (To p) l)
+        step taken (back p₀ w) x.there (led p₀ s x taken (Some p) l)
 
     pub renamed : (D : ℕ) (h : ℕ → ℕ) → Heights D P h → Heights D Q h
     renamed D h H = record {
@@ -57,9 +57,9 @@ module _ {X Y : Type 0} (f : X → Y) where
       enough = λ p s w e. let x = from P p s e in rw x.same (H.enough p x.old (back p w) x.there);
       room = λ p s w e. let x = from P p s e in rw x.same (H.room p x.old (back p w) x.there);
       follows = λ p s w e taken q l. let x = from P p s e in
-          rw x.same (H.follows p x.old (back p w) x.there taken q (led p s x taken (To q) l));
+          rw x.same (H.follows p x.old (back p w) x.there taken q (led p s x taken (Some q) l));
       lands = λ p s w e taken l. let x = from P p s e in
-          H.lands p x.old (back p w) x.there taken (led p s x taken Astray l);
+          H.lands p x.old (back p w) x.there taken (led p s x taken None l);
       ends = λ w. let same = length-map P (rename f) in
           omega (arith, ap h same, H.ends (subst (Reached P) same (back _ w)));
     }

@@ -7,8 +7,8 @@ use mathlib.Core.Bool.{Bool}
 use mathlib.Core.List.{List}
 use mathlib.Core.Option.{some}
 use lib.ListN.{length, get_elem?}
-use Rattle.word.specs.declared.Target.{Target}
-use Rattle.word.specs.declared.Target.TheVariants.{To, Astray}
+use Rattle.std.specs.Prelude.{Some, None}
+use Rattle.word.specs.Targets.{Target}
 use Rattle.record.specs.Records.{Record}
 use Rattle.inspection.specs.Heights.{effect, successor, height_after, Reached, EachSuch, Heights}
 
@@ -17,17 +17,17 @@ pub same_record : {Name : Type 0} (P : List (Record Name)) (p : ℕ) (r s : Reco
     → get_elem? P p ≡ some s → r ≡ s
 same_record P p r s e f = let same : some r ≡ some s = sym e ∙ f in cc
 
-pub same_target : (t : Target) (p q : ℕ) → t ≡ To p → t ≡ To q → p ≡ q
+pub same_target : (t : Target) (p q : ℕ) → t ≡ Some p → t ≡ Some q → p ≡ q
 same_target t p q e f = cc
 
-pub not_astray : (t : Target) (p : ℕ) → t ≡ To p → t ≡ Astray → ⊥
+pub not_astray : (t : Target) (p : ℕ) → t ≡ Some p → t ≡ None → ⊥
 not_astray t p e f = let z : ◌≡◌ {A = ℕ} 0 1 = cc in omega arith
 
 module _ {Name : Type 0} (D : ℕ) (P : List (Record Name)) (h : ℕ → ℕ) where
   pub record Right (p : ℕ) (r : Record Name) : Type 0 where
     pub enough : (effect r).takes ≤ h p
     pub room : height_after r (h p) ≤ D
-    pub ways : (taken : Bool) → (q : ℕ) × (successor (length P) p r taken ≡ To q) × (h q ≡ height_after r (h p))
+    pub ways : (taken : Bool) → (q : ℕ) × (successor (length P) p r taken ≡ Some q) × (h q ≡ height_after r (h p))
 
   pub right_heights : h 0 ≡ 0 → EachSuch D P h Right → (Reached P (length P) → h (length P) ≡ 0) → Heights D P h
   right_heights z x e = record {

@@ -14,9 +14,8 @@ use lib.Signed.{lt_z}
 use Rattle.base.specs.Acts.{Outcome, ok, ended, then'}
 use Rattle.base.specs.Ends.{Fault, short, full, out_of_range, astray, End, done, spent, fault}
 use Rattle.word.specs.Sums.{Sum, fits, out, SumRule}
-use Rattle.word.specs.Targets.{target}
-use Rattle.word.specs.declared.Target.{Target}
-use Rattle.word.specs.declared.Target.TheVariants.{To, Astray}
+use Rattle.word.specs.Targets.{Target, target}
+use Rattle.std.specs.Prelude.{Some, None}
 use Rattle.record.specs.Records.{Record, LOADI, LOAD, ADD, STORE, JMP, JMPLESS, JMPGE}
 use Rattle.machine.specs.Machine.{Memory, Machine, at, fresh, held, jump, act, run}
 use Rattle.machine.specs.Claims.{Walk, stay, step, Made}
@@ -43,16 +42,16 @@ module _ {M Name : Type 0} (sum : ℤ → ℤ → Sum) (D : ℕ) (o : Memory M N
       → Comes ADD p k (act sum D o last ADD (at p k m))
   unfolding effect leads
   ADD_goes p k m h d (fits z) e =
-      comes ADD p k (add_fits sum D o last z p k m h d e) (true, ap To (omega arith), omega arith)
+      comes ADD p k (add_fits sum D o last z p k m h d e) (true, ap Some (omega arith), omega arith)
   ADD_goes p k m h d out e = comes ADD p k (add_out sum D o last p k m h d e) tt
 
   -- a jump to a target, by a record that leaves k' values
   jump_goes : (r : Record Name) (i : ℤ) (p k k' : ℕ) (m : M) (t : Target) → target p i last ≡ t
       → successor last p r true ≡ target p i last → height_after r k ≡ k'
       → {x : Outcome (Machine M) Fault (Unit {0})} → x ≡ jump sum D o last i (at p k' m) → Comes r p k x
-  jump_goes r i p k k' m (To q) e l f g =
+  jump_goes r i p k k' m (Some q) e l f g =
       comes r p k (g ∙ jump_to sum D o last i p q k' m e) (true, l ∙ e, sym f)
-  jump_goes r i p k k' m Astray e l f g =
+  jump_goes r i p k k' m None e l f g =
       comes r p k (g ∙ jump_astray sum D o last i p k' m e) (true, l ∙ e)
 
   JMPLESS_goes : (i : ℤ) (p k : ℕ) (m : M) → 2 ≤ k → (b : Bool) → lt_z (o.peek m (k - 2)) (o.peek m (k - 1)) ≡ b
@@ -61,7 +60,7 @@ module _ {M Name : Type 0} (sum : ℤ → ℤ → Sum) (D : ℕ) (o : Memory M N
   JMPLESS_goes i p k m h true b =
       jump_goes (JMPLESS i) i p k (k - 2) m _ refl refl (omega arith) (compare_taken sum D o last true i p k m h b)
   JMPLESS_goes i p k m h false b =
-      comes (JMPLESS i) p k (compare_passed sum D o last true i p k m h b) (false, ap To (omega arith), omega arith)
+      comes (JMPLESS i) p k (compare_passed sum D o last true i p k m h b) (false, ap Some (omega arith), omega arith)
 
   JMPGE_goes : (i : ℤ) (p k : ℕ) (m : M) → 2 ≤ k → (b : Bool) → lt_z (o.peek m (k - 2)) (o.peek m (k - 1)) ≡ b
       → Comes (JMPGE i) p k (act sum D o last (JMPGE i) (at p k m))
@@ -69,19 +68,19 @@ module _ {M Name : Type 0} (sum : ℤ → ℤ → Sum) (D : ℕ) (o : Memory M N
   JMPGE_goes i p k m h false b =
       jump_goes (JMPGE i) i p k (k - 2) m _ refl refl (omega arith) (compare_taken sum D o last false i p k m h b)
   JMPGE_goes i p k m h true b =
-      comes (JMPGE i) p k (compare_passed sum D o last false i p k m h b) (false, ap To (omega arith), omega arith)
+      comes (JMPGE i) p k (compare_passed sum D o last false i p k m h b) (false, ap Some (omega arith), omega arith)
 
   act_goes : (r : Record Name) (p k : ℕ) (m : M) → k ≤ D → (effect r).takes ≤ k → height_after r k ≤ D
       → Comes r p k (act sum D o last r (at p k m))
   unfolding effect leads act held then'
   act_goes (LOADI z) p k m d h w =
-      comes (LOADI z) p k (push_on sum D o last z p k m (omega arith)) (true, ap To (omega arith), omega arith)
+      comes (LOADI z) p k (push_on sum D o last z p k m (omega arith)) (true, ap Some (omega arith), omega arith)
   act_goes (LOAD x) p k m d h w =
       comes (LOAD x) p k (push_on sum D o last (o.load m x) p k m (omega arith))
-      (true, ap To (omega arith), omega arith)
+      (true, ap Some (omega arith), omega arith)
   act_goes ADD p k m d h w = ADD_goes p k m h d _ refl
   act_goes (STORE x) p k m d h w =
-      comes (STORE x) p k (store_on sum D o last x p k m h) (true, ap To (omega arith), omega arith)
+      comes (STORE x) p k (store_on sum D o last x p k m h) (true, ap Some (omega arith), omega arith)
   act_goes (JMP i) p k m d h w = jump_goes (JMP i) i p k k m _ refl refl (omega arith) refl
   act_goes (JMPLESS i) p k m d h w = JMPLESS_goes i p k m h _ refl
   act_goes (JMPGE i) p k m d h w = JMPGE_goes i p k m h _ refl

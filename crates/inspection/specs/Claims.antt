@@ -4,7 +4,7 @@ use Rattle.base.specs.Acts.{Outcome, ok, ended}
 use Rattle.base.specs.Answers.{Answer, gives}
 use Rattle.base.specs.Ends.{Fault, short, full, out_of_range, astray, End, done, spent, fault, Ran}
 use Rattle.word.specs.Sums.{Sum, SumRule}
-use Rattle.word.specs.declared.Target.TheVariants.{To, Astray}
+use Rattle.std.specs.Prelude.{Some, None}
 use Rattle.text.specs.Syntax.{Command}
 use Rattle.text.specs.Encoding.{Bytes}
 use Rattle.text.specs.Sizes.{depth}
@@ -26,11 +26,11 @@ module _ {M Name : Type 0} (sum : ℤ → ℤ → Sum) (D : ℕ) (o : Memory M N
   -- where a successor is; or a sum out of range
   abbrev pub Goes : Record Name → ℕ → ℕ → Outcome (Machine M) Fault (Unit {0}) → Type 0
   Goes r p k (ok a s) =
-      (taken : Bool) × (successor last p r taken ≡ To s.position) × (s.size ≡ height_after r k)
+      (taken : Bool) × (successor last p r taken ≡ Some s.position) × (s.size ≡ height_after r k)
   Goes r p k (ended short) = ⊥
   Goes r p k (ended full) = ⊥
   Goes r p k (ended out_of_range) = Unit {0}
-  Goes r p k (ended astray) = (taken : Bool) × (successor last p r taken ≡ Astray)
+  Goes r p k (ended astray) = (taken : Bool) × (successor last p r taken ≡ None)
 
   -- What the machine does with it is as `effect` says
   pub record ByEffect (r : Record Name) (p k : ℕ) (m : M) : Type 0 where

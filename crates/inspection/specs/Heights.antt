@@ -2,9 +2,8 @@
 use Rattle.std.specs.Prelude.{◌≡◌, ℕ, suc, ◌+◌, ◌-◌, ◌≤◌, Bool, true, false, List, ℤ, length}
 use Rattle.std.proofs.Math.Option.{some}
 use Rattle.std.proofs.Math.ListN.{get_elem?}
-use Rattle.word.specs.Targets.{target}
-use Rattle.word.specs.declared.Target.{Target}
-use Rattle.word.specs.declared.Target.TheVariants.{To, Astray}
+use Rattle.word.specs.Targets.{Target, target}
+use Rattle.std.specs.Prelude.{Some, None}
 use Rattle.record.specs.Records.{Record, LOADI, LOAD, ADD, STORE, JMP, JMPLESS, JMPGE}
 
 -- ---- A record: what it takes, what it puts, where it leads
@@ -37,10 +36,10 @@ effect (JMPGE i) = takes 2 puts 0 then either i
 
 -- Where a way leads from p in code that ends at position `last`: with the jump taken, and without
 unfoldable pub leads : ℕ → ℕ → Way → Bool → Target
-leads last p on taken = To (suc p)
+leads last p on taken = Some (suc p)
 leads last p (by i) taken = target p i last
 leads last p (either i) true = target p i last
-leads last p (either i) false = To (suc p)
+leads last p (either i) false = Some (suc p)
 
 -- The successor of the record r at position p: one with its jump taken, one without; the same where it has one way
 abbrev pub successor : {Name : Type 0} → ℕ → ℕ → Record Name → Bool → Target
@@ -56,7 +55,7 @@ height_after r k = k - (effect r).takes + (effect r).puts
 pub data Reached {Name : Type 0} (P : List (Record Name)) : ℕ → Type 0 where
   first : Reached P 0
   step : {p q : ℕ} {r : Record Name} (taken : Bool) → Reached P p → get_elem? P p ≡ some r
-      → successor (length P) p r taken ≡ To q → Reached P q
+      → successor (length P) p r taken ≡ Some q → Reached P q
 
 -- h gives each position a height; what it gives to positions that cannot be reached is not looked at.
 module _ {Name : Type 0} (D : ℕ) (P : List (Record Name)) (h : ℕ → ℕ) where
@@ -73,10 +72,10 @@ module _ {Name : Type 0} (D : ℕ) (P : List (Record Name)) (h : ℕ → ℕ) wh
     -- "none pushes past D" (of a record that pushes nothing this follows from the other conditions)
     pub room : EachSuch (λ p r. height_after r (h p) ≤ D)
     -- "each successor has the height left by the record"
-    pub follows : EachSuch (λ p r. (taken : Bool) (q : ℕ) → successor (length P) p r taken ≡ To q
+    pub follows : EachSuch (λ p r. (taken : Bool) (q : ℕ) → successor (length P) p r taken ≡ Some q
         → h q ≡ height_after r (h p))
     -- "no such jump lands below 0 or past the end position"
-    pub lands : EachSuch (λ p r. (taken : Bool) → successor (length P) p r taken ≡ Astray → ⊥)
+    pub lands : EachSuch (λ p r. (taken : Bool) → successor (length P) p r taken ≡ None → ⊥)
     -- "and the end has height 0 if reached"
     pub ends : Reached P (length P) → h (length P) ≡ 0
 

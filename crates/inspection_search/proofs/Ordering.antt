@@ -7,11 +7,11 @@ use mathlib.Core.Bool.{true, false}
 use mathlib.Core.List.{List}
 use lib.ListN.{length, get_or, set, replicate, length-set, length-replicate}
 use lib.Seq.{get_or-set_same, get_or-set_other}
+use Rattle.std.specs.Prelude.{Some, None}
 use Rattle.record.specs.Records.{MachineCode}
 use Rattle.inspection.specs.Heights.{Reached, first}
 use Rattle.inspection_visit.specs.Records.{Given}
 use Rattle.inspection_visit.specs.Positions.{Stands, Grew, Held, Looked, Place, Visited}
-use Rattle.inspection_visit.specs.declared.Finds.TheVariants.{Found, Clash}
 use Rattle.inspection_visit.proofs.Labelling.{zeros_set, zeros_most}
 use Rattle.inspection_visit.proofs.Following.{heights}
 use Rattle.inspection_search.specs.Search.{Ready, Blank, Searched}
@@ -150,7 +150,7 @@ module _ {code : List ℕ} {last D n : ℕ} {ls o : List ℕ} {f i : ℕ} (k : L
         passes = r.passes;
       }
 
-  pub goes_on : {ls' o' : List ℕ} {f' : ℕ} → i < f → Visited code last D (get_or o i 0) ls o f (Found f') ls' o'
+  pub goes_on : {ls' o' : List ℕ} {f' : ℕ} → i < f → Visited code last D (get_or o i 0) ls o f (Some f') ls' o'
       → Loops code last D n ls' o' f' (i + 1)
   goes_on h v =
       let g = v.0 in
@@ -172,7 +172,7 @@ module _ {code : List ℕ} {last D n : ℕ} {ls o : List ℕ} {f i : ℕ} (k : L
             ];
       }
 
-  pub stops : (ls' o' : List ℕ) → Visited code last D (get_or o i 0) ls o f Clash ls' o' → Searched code last D false
+  pub stops : (ls' o' : List ℕ) → Visited code last D (get_or o i 0) ls o f None ls' o' → Searched code last D false
   stops ls' o' v x = v x (k.going x)
 
   pub all_looked : f ≤ i → Searched code last D true

@@ -10,10 +10,11 @@ pub record Ready (code : List ℕ) (last D : ℕ) : Type 0 where
   pub bytes : 5 * last ≤ length code
   pub passes : Given code last
 
--- and is short
-pub record ReadyShort (code : List ℕ) (last D : ℕ) : Type 0 where
+-- and that has at most n positions, no more than any code has
+pub record ReadyAmong (n : ℕ) (code : List ℕ) (last D : ℕ) : Type 0 where
   pub ready : Ready code last D
-  pub short : last < 256
+  pub covered : last < n
+  pub few : n ≤ 4097
 
 -- No position has a label, and each has a place for it.
 pub record Blank (code : List ℕ) (last D : ℕ) (ls o : List ℕ) : Type 0 where

@@ -9,14 +9,13 @@ use mathlib.Core.List.{List}
 use mathlib.Core.Option.{some}
 use lib.ListN.{length, get_or, get_elem?, set, length-set}
 use lib.Seq.{get_or-set_same, get_or-set_other}
-use Rattle.word.specs.declared.Target.{Target}
-use Rattle.word.specs.declared.Target.TheVariants.{To, Astray}
+use Rattle.std.specs.Prelude.{Some, None}
+use Rattle.word.specs.Targets.{Target}
 use Rattle.record.specs.Records.{Record, MachineCode}
 use Rattle.record.specs.declared.Address.{Address}
 use Rattle.inspection.specs.Heights.{effect, successor, height_after, Reached, first, step, Heights, Passing}
 use Rattle.inspection.proofs.Right.{same_target, right_heights}
 use Rattle.inspection_visit.specs.Positions.{Followed, again, new, other, astray, Stands, Grew, Held, Looked}
-use Rattle.inspection_visit.specs.declared.Finds.TheVariants.{Found, Clash}
 use Rattle.inspection_visit.proofs.Labelling.{zeros_set, some_zero}
 
 -- ---- What was found stays
@@ -39,12 +38,12 @@ grew_twice x y =
 
 -- What is known of a successor t and of the label for it
 pub record Successor (last : ℕ) (t : Target) (label : ℕ) : Type 0 where
-  pub inside : (q : ℕ) → t ≡ To q → q ≤ last
+  pub inside : (q : ℕ) → t ≡ Some q → q ≤ last
   pub some_label : label ≡ 0 → ⊥
   pub low : label ≤ 65
 
 -- A successor that had no label
-module _ {last : ℕ} {ls o : List ℕ} {f label q : ℕ} (s : Stands last ls o f) (t : Successor last (To q) label)
+module _ {last : ℕ} {ls o : List ℕ} {f label q : ℕ} (s : Stands last ls o f) (t : Successor last (Some q) label)
     (none_yet : get_or ls q 0 ≡ 0) where
   in_labels : q < length ls
   in_labels = omega (arith, t.inside q refl, s.covered)
@@ -107,12 +106,12 @@ module _ {last : ℕ} {ls o : List ℕ} {f label q : ℕ} (s : Stands last ls o 
 -- A target has the label.
 pub record HasLabel (ls : List ℕ) (label : ℕ) (t : Target) : Type 0 where
   pub to : ℕ
-  pub leads : t ≡ To to
+  pub leads : t ≡ Some to
   pub has : get_or ls to 0 ≡ label
 
 -- A successor that is found has the label.
 pub followed : {last : ℕ} {ls o : List ℕ} {f label : ℕ} {t : Target} {f' : ℕ} {ls' o' : List ℕ}
-    → Followed ls o f label t (Found f') ls' o' → Stands last ls o f → Successor last t label
+    → Followed ls o f label t (Some f') ls' o' → Stands last ls o f → Successor last t label
     → Grew last ls o f ls' o' f' × HasLabel ls' label t
 followed (again q e) s t = (grew_not s, record { to = q; leads = refl; has = e })
 followed (new q e) s t = (grew s t e, record { to = q; leads = refl; has = label_here s t e })
@@ -121,12 +120,12 @@ followed (new q e) s t = (grew s t e, record { to = q; leads = refl; has = label
 
 -- The label is that of the only height that the target can have.
 abbrev pub Only : ℕ → MachineCode → Target → ℕ → Type 0
-Only D P t label = (h : ℕ → ℕ) → Heights D P h → (q : ℕ) → t ≡ To q → label ≡ suc (h q)
+Only D P t label = (h : ℕ → ℕ) → Heights D P h → (q : ℕ) → t ≡ Some q → label ≡ suc (h q)
 
 -- A successor is found.
 pub held_on : {D : ℕ} {P : MachineCode} {last : ℕ} {ls o : List ℕ} {f label : ℕ} {t : Target} {f' : ℕ} {ls' o' : List ℕ}
-    → Followed ls o f label t (Found f') ls' o' → Stands last ls o f → Successor last t label
-    → ((q : ℕ) → t ≡ To q → Reached P q) → Only D P t label → Held D P ls o f → Held D P ls' o' f'
+    → Followed ls o f label t (Some f') ls' o' → Stands last ls o f → Successor last t label
+    → ((q : ℕ) → t ≡ Some q → Reached P q) → Only D P t label → Held D P ls o f → Held D P ls' o' f'
 held_on (again q e) s t reach only H = H
 held_on {P = P} {ls = ls} {f = f} {label = label} (new q e) s t reach only H =
     let old : (p : ℕ) → (p ≡ q → ⊥) → (get_or (set ls q label) p 0 ≡ 0 → ⊥) → get_or ls p 0 ≡ 0 → ⊥ =
@@ -159,7 +158,7 @@ held_on {P = P} {ls = ls} {f = f} {label = label} (new q e) s t reach only H =
 
 -- A successor clashes: it is astray, or has another height.
 pub clashed : {D : ℕ} {P : MachineCode} {ls o : List ℕ} {f label : ℕ} {t : Target} {ls' o' : List ℕ}
-    → Followed ls o f label t Clash ls' o' → Only D P t label → (t ≡ Astray → Passing D P → ⊥) → Held D P ls o f
+    → Followed ls o f label t None ls' o' → Only D P t label → (t ≡ None → Passing D P → ⊥) → Held D P ls o f
     → Passing D P → ⊥
 clashed (other q n e) only lost H (h, Hh) = e (H.forced h Hh q n ∙ sym (only h Hh q refl))
 clashed (astray) only lost H x = lost refl x
@@ -195,7 +194,7 @@ module _ {D : ℕ} {P : MachineCode} {ls o : List ℕ} {f : ℕ} (H : Held D P l
     height h Hh = let e : get_or ls p 0 ≡ suc (h p) = H.forced h Hh p there in omega arith
 
     -- Its successors can be reached,
-    pub reach : (taken : Bool) (q : ℕ) → successor (length P) p r taken ≡ To q → Reached P q
+    pub reach : (taken : Bool) (q : ℕ) → successor (length P) p r taken ≡ Some q → Reached P q
     reach taken q l = step taken (H.reached p there) due l
 
     -- have one height,
@@ -204,7 +203,7 @@ module _ {D : ℕ} {P : MachineCode} {ls o : List ℕ} {f : ℕ} (H : Held D P l
         ap suc (sym (Hh.follows p r (H.reached p there) due taken q l ∙ ap (height_after r) (height h Hh)))
 
     -- and are not astray.
-    pub lost : (taken : Bool) → successor (length P) p r taken ≡ Astray → Passing D P → ⊥
+    pub lost : (taken : Bool) → successor (length P) p r taken ≡ None → Passing D P → ⊥
     lost taken l (h, Hh) = Hh.lands p r (H.reached p there) due taken l
 
     -- It does not break its height.

@@ -7,10 +7,9 @@ use mathlib.Core.List.{List, [], ◌∷◌}
 use borrow.Author.Tests.{eq-eqb, ne_eqb}
 use lib.Dec.{eqb}
 use lib.ListN.{length, get_or, set}
-use Rattle.std.specs.Prelude.{if◌then◌else◌}
-use Rattle.word.specs.declared.Target.{Target}
+use Rattle.std.specs.Prelude.{if◌then◌else◌, Option}
+use Rattle.word.specs.Targets.{Target}
 use Rattle.inspection_visit.specs.Positions.{zeros, Followed}
-use Rattle.inspection_visit.specs.declared.Finds.{Finds}
 
 one_zero : (x : ℕ) → x ≡ 0 → ◌≡◌ {A = ℕ} (if eqb x 0 then 1 else 0) 1
 one_zero x e = simp (eq-eqb x 0 e)
@@ -41,6 +40,6 @@ zeros_most (x ∷ l) = by (eqb x 0) (zeros_most l)
     by false h = omega arith
 
 -- a target that is known to be another
-pub followed_at : {ls o : List ℕ} {f label : ℕ} {t u : Target} {r : Finds} {ls' o' : List ℕ} → t ≡ u
+pub followed_at : {ls o : List ℕ} {f label : ℕ} {t u : Target} {r : Option ℕ} {ls' o' : List ℕ} → t ≡ u
     → Followed ls o f label u r ls' o' → Followed ls o f label t r ls' o'
 followed_at {ls} {o} {f} {label} {t} {u} {r} {ls'} {o'} e = subst (λ t. Followed ls o f label t r ls' o') (sym e)

@@ -8,8 +8,9 @@ use mathlib.Core.Option.{none, some}
 use borrow.Author.Tests.{leb-true, le-leb}
 use lib.Dec.{leb}
 use lib.IntN.{ℤ}
-use Rattle.std.specs.Prelude.{if◌then◌else◌}
-use Rattle.word.specs.declared.Target.{Target}
+use Rattle.std.specs.Prelude.{if◌then◌else◌, Option, Some, None}
+use Rattle.std.proofs.lemmas.Option.{same_Some}
+use Rattle.word.specs.Targets.{Target}
 use Rattle.record.specs.Records.{Record, LOADI, LOAD, STORE, JMP, JMPLESS, JMPGE}
 use Rattle.record.specs.Bytes.{Kind, unknown, operation, is_zero, record_of}
 use Rattle.record.proofs.Decoding.{as_named, as_add}
@@ -18,7 +19,7 @@ use Rattle.record_test.proofs.ByNumbers.{below_first, from_first, past_last}
 use Rattle.inspection.specs.Heights.{Way, on, by, either, effect, leads, successor, height_after}
 use Rattle.inspection_visit.specs.Records.{goes, checked, numbered_effect}
 use Rattle.inspection_visit.specs.declared.Checked.{Checked}
-use Rattle.inspection_visit.specs.declared.Checked.TheVariants.{Leads, Forks, Breaks}
+use Rattle.inspection_visit.specs.declared.Checked.TheVariants.{Leads, Forks}
 
 -- ---- By its bytes
 
@@ -98,44 +99,49 @@ module _ (last p l after : ℕ) where
 
 module _ {Name : Type 0} (D last p k : ℕ) (r : Record Name) where
   -- the tests of a record that does not break its height
-  record LimitsHold (result : Checked) : Type 0 where
+  record LimitsHold (result : Option Checked) : Type 0 where
     enough : (effect r).takes ≤ k
     room : height_after r k ≤ D
-    goes_on : result ≡ goes last p (height_after r k) (effect r).way
+    goes_on : result ≡ Some (goes last p (height_after r k) (effect r).way)
 
-  limits_hold : (result : Checked) → (result ≡ Breaks → ⊥) → result ≡ checked D last p k (effect r) → LimitsHold result
+  limits_hold : (result : Option Checked) → (result ≡ None → ⊥) → result ≡ checked D last p k (effect r)
+      → LimitsHold result
   unfolding checked
   limits_hold result n said =
       pick (leb (effect r).takes k) (leb (height_after r k) D) (leb-true (effect r).takes k)
       (leb-true (height_after r k) D) said
     where
       pick : (s v : Bool) → (s ≡ true → (effect r).takes ≤ k) → (v ≡ true → height_after r k ≤ D)
-          → result ≡ (if s && v then goes last p (height_after r k) (effect r).way else Breaks) → LimitsHold result
+          → result ≡ (if s && v then Some (goes last p (height_after r k) (effect r).way) else None) → LimitsHold result
       pick true true f g e = record { enough = f refl; room = g refl; goes_on = e }
       pick true false f g e = absurd (n e)
       pick false v f g e = absurd (n e)
 
-  pub keeps_one : (l : ℕ) (to : Target) → Leads l to ≡ checked D last p k (effect r) → Keeping D last p k r l to to
+  pub keeps_one : (l : ℕ) (to : Target) → Some (Leads l to) ≡ checked D last p k (effect r)
+      → Keeping D last p k r l to to
   keeps_one l to e =
-      let x = limits_hold (Leads l to) (λ z. let no : ◌≡◌ {A = ℕ} 0 1 = cc in omega arith) e in
-      let y = goes_one last p l (height_after r k) to (effect r).way x.goes_on in
+      let x = limits_hold (Some (Leads l to)) (λ z. let no : ◌≡◌ {A = ℕ} 0 1 = cc in omega arith) e in
+      let same : Leads l to ≡ goes last p (height_after r k) (effect r).way = same_Some _ _ x.goes_on in
+      let y = goes_one last p l (height_after r k) to (effect r).way same in
       record { enough = x.enough; room = x.room; after_is = y.0; jumped_is = y.1 true; passed_is = y.1 false }
 
-  pub keeps_two : (l : ℕ) (j q : Target) → Forks l j q ≡ checked D last p k (effect r) → Keeping D last p k r l j q
+  pub keeps_two : (l : ℕ) (j q : Target) → Some (Forks l j q) ≡ checked D last p k (effect r)
+      → Keeping D last p k r l j q
   keeps_two l j q e =
-      let x = limits_hold (Forks l j q) (λ z. let no : ◌≡◌ {A = ℕ} 0 1 = cc in omega arith) e in
-      let y = goes_two last p l (height_after r k) j q (effect r).way x.goes_on in
+      let x = limits_hold (Some (Forks l j q)) (λ z. let no : ◌≡◌ {A = ℕ} 0 1 = cc in omega arith) e in
+      let same : Forks l j q ≡ goes last p (height_after r k) (effect r).way = same_Some _ _ x.goes_on in
+      let y = goes_two last p l (height_after r k) j q (effect r).way same in
       record { enough = x.enough; room = x.room; after_is = y.0; jumped_is = y.1; passed_is = y.2 }
 
   -- One that breaks its height takes more than that or pushes past D.
-  pub broken_height : Breaks ≡ checked D last p k (effect r) → (effect r).takes ≤ k → height_after r k ≤ D → ⊥
+  pub broken_height : None ≡ checked D last p k (effect r) → (effect r).takes ≤ k → height_after r k ≤ D → ⊥
   unfolding checked
   broken_height said f g =
       pick (leb (effect r).takes k) (leb (height_after r k) D) (le-leb (effect r).takes k f)
       (le-leb (height_after r k) D g) (effect r).way said
     where
       pick : (s v : Bool) → s ≡ true → v ≡ true → (w : Way)
-          → Breaks ≡ (if s && v then goes last p (height_after r k) w else Breaks) → ⊥
+          → None ≡ (if s && v then Some (goes last p (height_after r k) w) else None) → ⊥
       pick true true f g on e = let z : ◌≡◌ {A = ℕ} 0 1 = cc in omega arith
       pick true true f g (by i) e = let z : ◌≡◌ {A = ℕ} 0 1 = cc in omega arith
       pick true true f g (either i) e = let z : ◌≡◌ {A = ℕ} 0 1 = cc in omega arith

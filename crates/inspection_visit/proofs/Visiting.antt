@@ -3,14 +3,18 @@
 use mathlib.Core.Path.{◌≡◌, refl, sym, ◌∙◌, ap, subst}
 use Prim.Native.Nat.{ℕ, suc, ◌+◌, ◌-◌, ◌*◌, ◌≤◌, ◌<◌}
 use native.Mathlib.Numerals.{add-one}
+use native.Mathlib.Decide.{ℕ_discrete}
 use native.Mathlib.Omega.{arith}
 use mathlib.Core.Bool.{Bool, true, false}
 use mathlib.Core.List.{List}
 use mathlib.Core.Option.{some}
 use lib.ListN.{length, get_or, get_elem?}
+use borrow.Author.Tests.{eq-eqb, ne_eqb}
+use Rattle.std.specs.Prelude.{Option, Some, None, nat_eq}
+use Rattle.std.specs.Bool.{then_some}
 use Rattle.word.specs.Numbers.{number_at}
-use Rattle.word.specs.declared.Target.{Target}
-use Rattle.word.specs.declared.Target.TheVariants.{To, Astray}
+use Rattle.std.specs.Prelude.{Some, None}
+use Rattle.word.specs.Targets.{Target}
 use Rattle.record.specs.Records.{Record}
 use Rattle.record.specs.Bytes.{machine_kind}
 use Rattle.record.specs.declared.Address.{Address}
@@ -22,9 +26,7 @@ use Rattle.inspection.proofs.Right.{same_record}
 use Rattle.inspection_visit.specs.Records.{checked, checked_at, Known, Given}
 use Rattle.inspection_visit.specs.Positions.{Within, Followed, again, Grew, Held, Looked, Place, Visited}
 use Rattle.inspection_visit.specs.declared.Checked.{Checked}
-use Rattle.inspection_visit.specs.declared.Checked.TheVariants.{Leads, Forks, Breaks}
-use Rattle.inspection_visit.specs.declared.Finds.{Finds}
-use Rattle.inspection_visit.specs.declared.Finds.TheVariants.{Found, Clash}
+use Rattle.inspection_visit.specs.declared.Checked.TheVariants.{Leads, Forks}
 use Rattle.inspection_visit.proofs.Labelling.{followed_at}
 use Rattle.inspection_visit.proofs.Telling.{ByteTells, byte_tells, Keeping, keeps_one, keeps_two, broken_height}
 use Rattle.inspection_visit.proofs.Following.{grew_not, grew_twice, Successor, HasLabel, followed, Only}
@@ -33,11 +35,11 @@ use Rattle.inspection_visit.proofs.Following.{held_on, clashed, end_looked, end_
 -- ---- Where a record leads is within the code
 
 -- the next position
-next_within : (last p q : ℕ) → p < last → To (suc p) ≡ To q → q ≤ last
+next_within : (last p q : ℕ) → p < last → Some (suc p) ≡ Some q → q ≤ last
 next_within last p q h e = let same : suc p ≡ q = cc in omega arith
 
 -- any successor
-leads_within : (last p : ℕ) (w : Way) (taken : Bool) (q : ℕ) → p < last → leads last p w taken ≡ To q → q ≤ last
+leads_within : (last p : ℕ) (w : Way) (taken : Bool) (q : ℕ) → p < last → leads last p w taken ≡ Some q → q ≤ last
 unfolding leads
 leads_within last p on taken q h e = next_within last p q h e
 leads_within last p (by i) taken q h e = target_within p i last q e
@@ -45,9 +47,9 @@ leads_within last p (either i) true q h e = target_within p i last q e
 leads_within last p (either i) false q h e = next_within last p q h e
 
 -- a target that is no further than `last`
-within : (last n : ℕ) (t : Target) → last < n → ((q : ℕ) → t ≡ To q → q ≤ last) → Within n t
-within last n (To q) l h = omega (arith, h q refl)
-within last n Astray l h = tt
+within : (last n : ℕ) (t : Target) → last < n → ((q : ℕ) → t ≡ Some q → q ≤ last) → Within n t
+within last n (Some q) l h = omega (arith, h q refl)
+within last n None l h = tt
 
 -- ---- The end
 
@@ -57,7 +59,7 @@ all_records {code} {last} x = records_length (machine_kind x.n) code 0 last x.gi
 
 module _ {code : List ℕ} {last D p : ℕ} {ls o : List ℕ} {f : ℕ} (s : Place code last D p ls o f) (end : p ≡ last) where
   -- It has height 0,
-  pub end_right : get_or ls p 0 ≡ 1 → Visited code last D p ls o f (Found f) ls o
+  end_right : get_or ls p 0 ≡ 1 → Visited code last D p ls o f (Some f) ls o
   end_right one = (
     grew_not s.stands,
     λ x H. (
@@ -67,8 +69,17 @@ module _ {code : List ℕ} {last D p : ℕ} {ls o : List ℕ} {f : ℕ} (s : Pla
   )
 
   -- or another.
-  pub end_wrong : (get_or ls p 0 ≡ 1 → ⊥) → Visited code last D p ls o f Clash ls o
+  end_wrong : (get_or ls p 0 ≡ 1 → ⊥) → Visited code last D p ls o f None ls o
   end_wrong n x H = end_clash H p s.there (end ∙ sym (all_records x)) n
+
+  -- Whether it is 0 tells which.
+  pub end_told : {label : ℕ} → label ≡ get_or ls p 0
+      → Visited code last D p ls o f (then_some (nat_eq label 1) f) ls o
+  end_told {label} e =
+      elim (ℕ_discrete label 1) [
+        | yes y ↦ rw (eq-eqb label 1 y) (end_right (sym e ∙ y))
+        | no n ↦ rw (ne_eqb label 1 n) (end_wrong (λ z. n (e ∙ z)))
+      ]
 
 -- ---- A record
 
@@ -89,12 +100,12 @@ known_there {code} {last} {p = p} s inside k low =
     }
 
 -- A record was checked at the height of its position.
-pub record CheckedAt (code : List ℕ) (last D p : ℕ) (ls o : List ℕ) (f : ℕ) (result : Checked) : Type 0 where
+pub record CheckedAt (code : List ℕ) (last D p : ℕ) (ls o : List ℕ) (f : ℕ) (result : Option Checked) : Type 0 where
   pub place : Place code last D p ls o f
   pub inside : p < last
   pub checks : result ≡ checked_at code last D p (get_or ls p 0 - 1)
 
-module _ {code : List ℕ} {last D p : ℕ} {ls o : List ℕ} {f : ℕ} {result : Checked}
+module _ {code : List ℕ} {last D p : ℕ} {ls o : List ℕ} {f : ℕ} {result : Option Checked}
     (s : CheckedAt code last D p ls o f result) (x : Given code last) where
   -- the record there
   due_there : Due (machine_kind x.n) code x.records p
@@ -109,9 +120,20 @@ module _ {code : List ℕ} {last D p : ℕ} {ls o : List ℕ} {f : ℕ} {result 
       s.checks
       ∙ (λ i. checked D (sym (all_records x) i) p (get_or ls p 0 - 1) (told_there.effect_is i))
 
+-- It was checked here: `label` is its label, and `x` what the check gave.
+pub checked_here : {code : List ℕ} {last D p : ℕ} {ls o : List ℕ} {f label : ℕ} {x result : Option Checked}
+    → Place code last D p ls o f → (p ≡ last → ⊥) → label ≡ get_or ls p 0
+    → x ≡ checked_at code last D p (label - 1) → x ≡ result → CheckedAt code last D p ls o f result
+checked_here {code} {last} {D} {p} place off label checks is =
+    record {
+      place = place;
+      inside = omega (arith, place.at_most, off);
+      checks = sym is ∙ checks ∙ ap (λ l. checked_at code last D p (l - 1)) label;
+    }
+
 -- It takes more than there is or pushes past D.
-pub breaks : {code : List ℕ} {last D p : ℕ} {ls o : List ℕ} {f : ℕ} → CheckedAt code last D p ls o f Breaks
-    → Visited code last D p ls o f Clash ls o
+pub breaks : {code : List ℕ} {last D p : ℕ} {ls o : List ℕ} {f : ℕ} → CheckedAt code last D p ls o f None
+    → Visited code last D p ls o f None ls o
 breaks s x H =
     broken H _ s.place.there (due_there s x).listed
     (broken_height _ _ _ _ (due_there s x).due (result_is s x))
@@ -124,7 +146,7 @@ pub record Leading (code : List ℕ) (last D p : ℕ) (ls o : List ℕ) (f l : �
       × Keeping D (length x.records) p (get_or ls p 0 - 1) r l jumped passed
 
 module _ {code : List ℕ} {last D p : ℕ} {ls o : List ℕ} {f l : ℕ} where
-  pub leads_one : {to : Target} → CheckedAt code last D p ls o f (Leads l to) → Leading code last D p ls o f l to to
+  leads_one : {to : Target} → CheckedAt code last D p ls o f (Some (Leads l to)) → Leading code last D p ls o f l to to
   leads_one s = record {
     place = s.place;
     inside = s.inside;
@@ -132,7 +154,7 @@ module _ {code : List ℕ} {last D p : ℕ} {ls o : List ℕ} {f l : ℕ} where
         (d.due, d.listed, keeps_one _ _ _ _ d.due _ _ (result_is s x));
   }
 
-  pub leads_two : {jumped passed : Target} → CheckedAt code last D p ls o f (Forks l jumped passed)
+  leads_two : {jumped passed : Target} → CheckedAt code last D p ls o f (Some (Forks l jumped passed))
       → Leading code last D p ls o f l jumped passed
   leads_two s = record {
     place = s.place;
@@ -140,6 +162,16 @@ module _ {code : List ℕ} {last D p : ℕ} {ls o : List ℕ} {f l : ℕ} where
     keeping = λ x. let d = due_there s x in
         (d.due, d.listed, keeps_two _ _ _ _ d.due _ _ _ (result_is s x));
   }
+
+-- The same of what the check gave.
+module _ {code : List ℕ} {last D p : ℕ} {ls o : List ℕ} {f label l : ℕ} {x : Option Checked} {y : Checked}
+    (place : Place code last D p ls o f) (off : p ≡ last → ⊥) (is_label : label ≡ get_or ls p 0)
+    (checks : x ≡ checked_at code last D p (label - 1)) (gives : x ≡ Some y) where
+  pub one_way : {to : Target} → y ≡ Leads l to → Leading code last D p ls o f l to to
+  one_way is = leads_one (checked_here place off is_label checks (gives ∙ ap Some is))
+
+  pub two_ways : {jumped passed : Target} → y ≡ Forks l jumped passed → Leading code last D p ls o f l jumped passed
+  two_ways is = leads_two (checked_here place off is_label checks (gives ∙ ap Some is))
 
 -- ---- A record that keeps to its height
 
@@ -166,7 +198,7 @@ module _ {code : List ℕ} {last D p : ℕ} {ls o : List ℕ} {f l : ℕ} {jumpe
     way_is false = keeps.passed_is
 
     -- no further than `last`
-    way_inside : (taken : Bool) (v : ℕ) → way taken ≡ To v → v ≤ last
+    way_inside : (taken : Bool) (v : ℕ) → way taken ≡ Some v → v ≤ last
     way_inside taken v e =
         omega (
           arith,
@@ -185,10 +217,10 @@ module _ {code : List ℕ} {last D p : ℕ} {ls o : List ℕ} {f l : ℕ} {jumpe
       only_at taken h Hh v e =
           label_is ∙ only H p s.place.there listed taken h Hh v (sym (way_is taken) ∙ e)
 
-      reach_at : (taken : Bool) (v : ℕ) → way taken ≡ To v → Reached x.records v
+      reach_at : (taken : Bool) (v : ℕ) → way taken ≡ Some v → Reached x.records v
       reach_at taken v e = reach H p s.place.there listed taken v (sym (way_is taken) ∙ e)
 
-      lost_at : (taken : Bool) → way taken ≡ Astray → Passing D x.records → ⊥
+      lost_at : (taken : Bool) → way taken ≡ None → Passing D x.records → ⊥
       lost_at taken e = lost H p s.place.there listed taken (sym (way_is taken) ∙ e)
 
   -- the label of the height left
@@ -205,11 +237,11 @@ module _ {code : List ℕ} {last D p : ℕ} {ls o : List ℕ} {f l : ℕ} {jumpe
   pub jump_within : Within (length ls) jumped
   jump_within = within last (length ls) jumped s.place.stands.covered (to_follow true).inside
 
-  pub jump_clash : {ls₁ o₁ : List ℕ} → Followed ls o f (l + 1) jumped Clash ls₁ o₁
-      → Visited code last D p ls o f Clash ls₁ o₁
+  pub jump_clash : {ls₁ o₁ : List ℕ} → Followed ls o f (l + 1) jumped None ls₁ o₁
+      → Visited code last D p ls o f None ls₁ o₁
   jump_clash w x H = clashed w (only_at x H true) (lost_at x H true) H
 
-  module _ {f₁ : ℕ} {ls₁ o₁ : List ℕ} (w : Followed ls o f (l + 1) jumped (Found f₁) ls₁ o₁) where
+  module _ {f₁ : ℕ} {ls₁ o₁ : List ℕ} (w : Followed ls o f (l + 1) jumped (Some f₁) ls₁ o₁) where
     pub jump_found : Grew last ls o f ls₁ o₁ f₁ × HasLabel ls₁ (l + 1) jumped
     jump_found = followed w s.place.stands (to_follow true)
 
@@ -221,7 +253,7 @@ module _ {code : List ℕ} {last D p : ℕ} {ls o : List ℕ} {f l : ℕ} {jumpe
     pub pass_within : Within (length ls₁) passed
     pass_within = within last (length ls₁) passed jump_found.0.stands.covered (to_follow false).inside
 
-    module _ {f₂ : ℕ} {ls₂ o₂ : List ℕ} (v : Followed ls₁ o₁ f₁ (l + 1) passed (Found f₂) ls₂ o₂) where
+    module _ {f₂ : ℕ} {ls₂ o₂ : List ℕ} (v : Followed ls₁ o₁ f₁ (l + 1) passed (Some f₂) ls₂ o₂) where
       pass_found : Grew last ls₁ o₁ f₁ ls₂ o₂ f₂ × HasLabel ls₂ (l + 1) passed
       pass_found = followed v jump_found.0.stands (to_follow false)
 
@@ -275,17 +307,17 @@ module _ {code : List ℕ} {last D p : ℕ} {ls o : List ℕ} {f l : ℕ} {jumpe
           }
 
     -- found, or no heights can be given
-    pub both_followed : (result : Finds) {ls₂ o₂ : List ℕ} → Followed ls₁ o₁ f₁ (l + 1) passed result ls₂ o₂
+    pub both_followed : (result : Option ℕ) {ls₂ o₂ : List ℕ} → Followed ls₁ o₁ f₁ (l + 1) passed result ls₂ o₂
         → Visited code last D p ls o f result ls₂ o₂
-    both_followed (Found f₂) v = (grown v, λ x H. (held_twice v x H, looked_at v x))
-    both_followed Clash v = λ x H. clashed v (only_at x H false) (lost_at x H false) (held_once x H)
+    both_followed (Some f₂) v = (grown v, λ x H. (held_twice v x H, looked_at v x))
+    both_followed None v = λ x H. clashed v (only_at x H false) (lost_at x H false) (held_once x H)
 
 -- ---- One way, followed once: a second time it would be found again.
 
 pub one_followed : {code : List ℕ} {last D p : ℕ} {ls o : List ℕ} {f l : ℕ} {to : Target}
-    (s : Leading code last D p ls o f l to to) (result : Finds) {ls₁ o₁ : List ℕ}
+    (s : Leading code last D p ls o f l to to) (result : Option ℕ) {ls₁ o₁ : List ℕ}
     → Followed ls o f (l + 1) to result ls₁ o₁ → Visited code last D p ls o f result ls₁ o₁
-one_followed s (Found f₁) w =
+one_followed s (Some f₁) w =
     let x = (jump_found s w).1 in
-    both_followed s w (Found f₁) (followed_at x.leads (again x.to x.has))
-one_followed s Clash w = jump_clash s w
+    both_followed s w (Some f₁) (followed_at x.leads (again x.to x.has))
+one_followed s None w = jump_clash s w

@@ -3,15 +3,12 @@
 use Rattle.std.specs.Prelude.{◌≡◌, ℕ, suc, ◌+◌, ◌-◌, ◌*◌, ◌≤◌, ◌<◌, Bool, List, [], ◌∷◌, eqb, length, get_or, set}
 use Rattle.std.proofs.Math.Option.{some}
 use Rattle.std.proofs.Math.ListN.{get_elem?}
-use Rattle.std.specs.Prelude.{if◌then◌else◌}
-use Rattle.word.specs.declared.Target.{Target}
-use Rattle.word.specs.declared.Target.TheVariants.{To, Astray}
+use Rattle.std.specs.Prelude.{if◌then◌else◌, Option, Some, None}
+use Rattle.word.specs.Targets.{Target}
 use Rattle.record.specs.Records.{Record, MachineCode}
 use Rattle.record.specs.declared.Address.{Address}
 use Rattle.inspection.specs.Heights.{effect, successor, height_after, Reached, Heights, Passing}
 use Rattle.inspection_visit.specs.Records.{Given}
-use Rattle.inspection_visit.specs.declared.Finds.{Finds}
-use Rattle.inspection_visit.specs.declared.Finds.TheVariants.{Found, Clash}
 
 -- ---- A successor
 
@@ -28,15 +25,15 @@ pub record Room (ls o : List ℕ) (f : ℕ) : Type 0 where
 
 -- A target that is one of the first n positions
 abbrev pub Within : ℕ → Target → Type 0
-Within n (To q) = q < n
-Within n Astray = Unit {0}
+Within n (Some q) = q < n
+Within n None = Unit {0}
 
--- A successor followed
-pub data Followed (ls o : List ℕ) (f label : ℕ) : Target → Finds → List ℕ → List ℕ → Type 0 where
-  again : (q : ℕ) → get_or ls q 0 ≡ label → Followed ls o f label (To q) (Found f) ls o
-  new : (q : ℕ) → get_or ls q 0 ≡ 0 → Followed ls o f label (To q) (Found (f + 1)) (set ls q label) (set o f q)
-  other : (q : ℕ) → (get_or ls q 0 ≡ 0 → ⊥) → (get_or ls q 0 ≡ label → ⊥) → Followed ls o f label (To q) Clash ls o
-  astray : Followed ls o f label Astray Clash ls o
+-- A successor followed: how many positions are found then; none where its label is another or it is astray
+pub data Followed (ls o : List ℕ) (f label : ℕ) : Target → Option ℕ → List ℕ → List ℕ → Type 0 where
+  again : (q : ℕ) → get_or ls q 0 ≡ label → Followed ls o f label (Some q) (Some f) ls o
+  new : (q : ℕ) → get_or ls q 0 ≡ 0 → Followed ls o f label (Some q) (Some (f + 1)) (set ls q label) (set o f q)
+  other : (q : ℕ) → (get_or ls q 0 ≡ 0 → ⊥) → (get_or ls q 0 ≡ label → ⊥) → Followed ls o f label (Some q) None ls o
+  astray : Followed ls o f label None None ls o
 
 -- ---- What was found
 
@@ -70,7 +67,8 @@ module _ (D : ℕ) (P : MachineCode) where
     pub enough : (r : Record Address) → get_elem? P p ≡ some r → (effect r).takes ≤ get_or ls p 0 - 1
     pub room : (r : Record Address) → get_elem? P p ≡ some r → height_after r (get_or ls p 0 - 1) ≤ D
     pub ways : (r : Record Address) → get_elem? P p ≡ some r → (taken : Bool)
-        → (q : ℕ) × (successor (length P) p r taken ≡ To q) × (get_or ls q 0 ≡ suc (height_after r (get_or ls p 0 - 1)))
+        → (q : ℕ) × (successor (length P) p r taken ≡ Some q)
+        × (get_or ls q 0 ≡ suc (height_after r (get_or ls p 0 - 1)))
 
 -- ---- A position looked at
 
@@ -85,9 +83,9 @@ pub record Place (code : List ℕ) (last D p : ℕ) (ls o : List ℕ) (f : ℕ) 
   pub passes : Given code last
 
 -- What is known after: its conditions hold and its successors are found; or no heights can be given
-abbrev pub Visited : List ℕ → ℕ → ℕ → ℕ → List ℕ → List ℕ → ℕ → Finds → List ℕ → List ℕ → Type 0
-Visited code last D p ls o f (Found f') ls' o' = Grew last ls o f ls' o' f'
+abbrev pub Visited : List ℕ → ℕ → ℕ → ℕ → List ℕ → List ℕ → ℕ → Option ℕ → List ℕ → List ℕ → Type 0
+Visited code last D p ls o f (Some f') ls' o' = Grew last ls o f ls' o' f'
     × ((x : Given code last) → Held D x.records ls o f
     → Held D x.records ls' o' f' × Looked D x.records ls' p)
-Visited code last D p ls o f Clash ls' o' =
+Visited code last D p ls o f None ls' o' =
     (x : Given code last) → Held D x.records ls o f → Passing D x.records → ⊥

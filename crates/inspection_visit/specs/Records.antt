@@ -1,29 +1,28 @@
 -- What a record comes to at a height, by its bytes, and code that passed the tests of records.
 use Rattle.std.specs.Prelude.{◌≡◌, ℕ, suc, ◌+◌, ◌-◌, ◌*◌, ◌≤◌, ◌<◌, ◌&&◌, List, [], ◌∷◌, eqb, leb, ltb, ℤ, length}
-use Rattle.std.specs.Prelude.{get_or, if◌then◌else◌}
+use Rattle.std.specs.Prelude.{get_or, if◌then◌else◌, Option, Some, None}
 use Rattle.base.specs.Answers.{gives}
 use Rattle.word.specs.Numbers.{number_at}
 use Rattle.word.specs.Targets.{target}
-use Rattle.word.specs.declared.Target.TheVariants.{To}
 use Rattle.record.specs.Records.{MachineCode}
 use Rattle.record.specs.Bytes.{machine_kind, records_from}
 use Rattle.inspection.specs.Heights.{Way, on, by, either, Effect, takes◌puts◌then◌}
 use Rattle.inspection_visit.specs.declared.Checked.{Checked}
-use Rattle.inspection_visit.specs.declared.Checked.TheVariants.{Leads, Forks, Breaks}
+use Rattle.inspection_visit.specs.declared.Checked.TheVariants.{Leads, Forks}
 
 -- ---- A record
 
 -- Where it leads from p, in code that ends at position `last`, from the height that it leaves
 abbrev pub goes : ℕ → ℕ → ℕ → Way → Checked
-goes last p after on = Leads after (To (suc p))
+goes last p after on = Leads after (Some (suc p))
 goes last p after (by i) = Leads after (target p i last)
-goes last p after (either i) = Forks after (target p i last) (To (suc p))
+goes last p after (either i) = Forks after (target p i last) (Some (suc p))
 
--- What it comes to at height k
-unfoldable pub checked : ℕ → ℕ → ℕ → ℕ → Effect → Checked
+-- What it comes to at height k; none where it takes more than that or pushes past D
+unfoldable pub checked : ℕ → ℕ → ℕ → ℕ → Effect → Option Checked
 checked D last p k e =
     let after = k - e.takes + e.puts in
-    if leb e.takes k && leb after D then goes last p after e.way else Breaks
+    if leb e.takes k && leb after D then Some (goes last p after e.way) else None
 
 -- What the record of a number takes and puts, LOADI's 0 to JMPGE's 6, and its way with the operand i
 abbrev pub numbered_effect : ℕ → ℤ → Effect
@@ -33,7 +32,7 @@ numbered_effect j i =
     then (if ltb j 4 then on else if eqb j 4 then by i else either i)
 
 -- What the bytes at position p come to
-abbrev pub checked_at : List ℕ → ℕ → ℕ → ℕ → ℕ → Checked
+abbrev pub checked_at : List ℕ → ℕ → ℕ → ℕ → ℕ → Option Checked
 checked_at code last D p k =
     checked D last p k (numbered_effect (get_or code (5 * p) 0 - 0x50) (number_at code (5 * p + 1)))
 

@@ -14,12 +14,11 @@ use borrow.Author.Tests.{le-leb, lt-leb, leb-true, eqb-true}
 use lib.Dec.{eqb, leb}
 use lib.IntN.{ℤ}
 use lib.ListN.{length, length-set}
+use Rattle.std.specs.Prelude.{Result, Ok, Err}
 use Rattle.base.specs.Answers.{Answer, gives, refused, unless◌refuse◌at◌else◌, and_then, settle}
 use Rattle.base.specs.Ends.{End, fault, Ran, ran, report}
-use Rattle.base.specs.Code.{count_answer}
+use Rattle.base.specs.Code.{number_of, count_answer}
 use Rattle.base.specs.declared.Refusal.{Refusal}
-use Rattle.base.specs.declared.Count.{Count}
-use Rattle.base.specs.declared.Count.TheVariants.{Refused, Gives}
 use Rattle.base.proofs.Answers.{gives_one}
 use Rattle.base.proofs.Settled.{unless_passed, needed, refused_first, both, settled, declined}
 use Rattle.record.specs.Records.{AssemblyCode, MachineCode}
@@ -45,15 +44,15 @@ abbrev pub number_given : {A : Type 0} → Answer (List A) → Answer ℕ
 number_given tests = and_then tests (λ P. gives (length P))
 
 -- Where the code's count of them is `last`, they gave as many records;
-pub counted : {A : Type 0} {r : Count} {last : ℕ} (tests : Answer (List A)) → r ≡ Gives last
+pub counted : {A : Type 0} {r : Result ℕ Refusal} {last : ℕ} (tests : Answer (List A)) → r ≡ Ok last
     → count_answer r ≡ number_given tests → (P : List A) × (tests ≡ gives P) × (length P ≡ last)
 counted tests is e =
     let n = needed tests (λ P. gives (length P)) (sym e ∙ ap count_answer is) in
     (n.value, n.given, gives_one _ _ n.then_gives)
 
 -- where it is a refusal, it is theirs.
-pub refused_by : {A : Type 0} {r : Count} {why : Refusal} (tests : Answer (List A)) → r ≡ Refused why
-    → count_answer r ≡ number_given tests → tests ≡ refused why.number why.place
+pub refused_by : {A : Type 0} {r : Result ℕ Refusal} {why : Refusal} (tests : Answer (List A)) → r ≡ Err why
+    → count_answer r ≡ number_given tests → tests ≡ refused (number_of why.reason) why.place
 refused_by tests is e = refused_first tests length (sym e ∙ ap count_answer is)
 
 -- What is found of code whose tests give `last` records
@@ -95,8 +94,8 @@ module _ (code : List ℕ) (m : Assembly) where
     pub code_is : CodeFound assembly_kind code records last
     pub sized : length m.store ≡ 64
 
-  pub assembly_found : {r : Count} {last : ℕ} → r ≡ Gives last → count_answer r ≡ number_given (assembly_tests code m)
-      → AssemblyFound last
+  pub assembly_found : {r : Result ℕ Refusal} {last : ℕ} → r ≡ Ok last
+      → count_answer r ≡ number_given (assembly_tests code m) → AssemblyFound last
   unfolding assembly_tests
   assembly_found is e =
       let c = counted (assembly_tests code m) is e in
@@ -112,9 +111,9 @@ module _ (code : List ℕ) (m : Assembly) where
       }
 
   -- The call
-  pub assembly_declines : (budget : ℕ) {r : Count} {why : Refusal} → r ≡ Refused why
+  pub assembly_declines : (budget : ℕ) {r : Result ℕ Refusal} {why : Refusal} → r ≡ Err why
       → count_answer r ≡ number_given (assembly_tests code m)
-      → (refused why.number why.place, m) ≡ run_assembly code m budget
+      → (refused (number_of why.reason) why.place, m) ≡ run_assembly code m budget
   unfolding run_assembly
   assembly_declines budget is e = declined (assembly_tests code m) _ _ m (refused_by (assembly_tests code m) is e)
 
@@ -252,13 +251,13 @@ module _ (code : List ℕ) (m : List ℤ) (D n : ℕ) (s : State) (budget : ℕ)
       }
 
   -- The answer, where the code's count of the first tests is a refusal, and where it is a number
-  pub still_refused : {r : Count} {why : Refusal} → r ≡ Refused why
+  pub still_refused : {r : Result ℕ Refusal} {why : Refusal} → r ≡ Err why
       → count_answer r ≡ number_given (machine_tests code m D n)
-      → count_answer (Refused why) ≡ number_given (state_tests code m D n s budget)
+      → count_answer (Err why) ≡ number_given (state_tests code m D n s budget)
   unfolding and_then
   still_refused is e = sym (ap number_given (first_refused (refused_by (machine_tests code m D n) is e)))
 
-  pub then_fifteen : (b : Bool) {r : Count} {last : ℕ} → state_fits s last D budget ≡ b → r ≡ Gives last
+  pub then_fifteen : (b : Bool) {r : Result ℕ Refusal} {last : ℕ} → state_fits s last D budget ≡ b → r ≡ Ok last
       → count_answer r ≡ number_given (machine_tests code m D n)
       → (unless b refuse 15 at 0 else gives last) ≡ number_given (state_tests code m D n s budget)
   unfolding state_tests and_then
@@ -293,10 +292,11 @@ told_ran End.done k mark s = refl
 told_ran End.spent k mark s = refl
 told_ran (fault e) k mark s = refl
 
--- and of a call's answer
-pub without_state_of : {a : Answer Told} {r : Answer Ran} {m : List ℤ} {x : Answer Told × List ℤ}
-    → r ≡ answer_without_state a → (a, m) ≡ x → (r, m) ≡ without_state x
-without_state_of {m = m} tells-it e = (λ i. (tells-it i, m)) ∙ ap without_state e
+-- and of a call that gives
+pub without_state_of : {a : Told} {r : Ran} {m : List ℤ} {x : Answer Told × List ℤ} → r ≡ ran_of a → (gives a, m) ≡ x
+    → (gives r, m) ≡ without_state x
+unfolding and_then
+without_state_of {m = m} tells e = (λ i. (gives (tells i), m)) ∙ ap without_state e
 
 module _ (code : List ℕ) (m : List ℤ) (D n budget : ℕ) where
   fresh_found : {P : MachineCode} → machine_tests code m D n ≡ gives P → StateFound code m D n fresh_state budget P

@@ -11,7 +11,7 @@ use Rattle.std.specs.Prelude.{if◌then◌else◌}
 use Rattle.base.specs.Acts.{ok, ended, then'}
 use Rattle.word.specs.Sums.{Sum}
 use Rattle.word.specs.Targets.{within, target}
-use Rattle.word.specs.declared.Target.TheVariants.{To, Astray}
+use Rattle.std.specs.Prelude.{Some, None}
 use Rattle.record.specs.Records.{JMPLESS, JMPGE}
 use Rattle.base.specs.Ends.{Fault}
 use Rattle.machine.specs.Machine.{Memory, at, taken, pop, push, next, land, jump, act}
@@ -37,16 +37,16 @@ sub_back c p j e =
     (le→nltb (suc j) (suc c) (omega arith))
     ∙ ap pos (omega arith)
 
-within_on : (q last : ℕ) → q ≤ last → within last (pos q) ≡ To q
+within_on : (q last : ℕ) → q ≤ last → within last (pos q) ≡ Some q
 unfolding within
-within_on q last b = if_yes (leb q last) (To q) Astray (le→leb q last b)
+within_on q last b = if_yes (leb q last) (Some q) None (le→leb q last b)
 
 -- where a jump on by i from the record before q leads, and a jump back over c records to p
-pub target_on : (i p q last : ℕ) → suc p ≡ q → q + i ≤ last → target p (pos i) last ≡ To (q + i)
+pub target_on : (i p q last : ℕ) → suc p ≡ q → q + i ≤ last → target p (pos i) last ≡ Some (q + i)
 unfolding target
 target_on i p q last e b = ap (λ r. within last (pos (r + i))) e ∙ within_on (q + i) last b
 
-pub target_back : (c p j last : ℕ) → j ≡ p + c → p ≤ last → target j (negsuc c) last ≡ To p
+pub target_back : (c p j last : ℕ) → j ≡ p + c → p ≤ last → target j (negsuc c) last ≡ Some p
 unfolding target
 target_back c p j last e b = ap (within last) (sub_back c p j e) ∙ within_on p last b
 
@@ -59,7 +59,7 @@ module _ {M Name : Type 0} (sum : ℤ → ℤ → Sum) (D : ℕ) (o : Memory M N
       (if_yes (ltb k D) (ok tt (at p (suc k) (o.poke m k z))) (ended Fault.full) (lt→ltb k D d))
 
   -- a jump whose target is known
-  pub land_on : (i : ℤ) (p k : ℕ) (m : M) (t : ℕ) → target p i last ≡ To t
+  pub land_on : (i : ℤ) (p k : ℕ) (m : M) (t : ℕ) → target p i last ≡ Some t
       → jump sum D o last i (at p k m) ≡ ok tt (at t k m)
   unfolding jump land
   land_on i p k m t e = ap (λ t. land sum D o last t (at p k m)) e

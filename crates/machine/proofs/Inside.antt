@@ -14,9 +14,8 @@ use lib.Signed.{lt_z}
 use Rattle.std.specs.Prelude.{if◌then◌else◌}
 use Rattle.base.specs.Acts.{Outcome, ok, ended, Act, then'}
 use Rattle.word.specs.Sums.{Sum, fits, out, SumRule}
-use Rattle.word.specs.Targets.{within, target}
-use Rattle.word.specs.declared.Target.{Target}
-use Rattle.word.specs.declared.Target.TheVariants.{To, Astray}
+use Rattle.word.specs.Targets.{Target, within, target}
+use Rattle.std.specs.Prelude.{Some, None}
 use Rattle.record.specs.Records.{Record, LOADI, LOAD, ADD, STORE, JMP, JMPLESS, JMPGE}
 use Rattle.base.specs.Ends.{Fault, fault, Result, result}
 use Rattle.machine.specs.Machine.{Memory, Machine, at, fresh, taken, pop, push}
@@ -55,17 +54,17 @@ some_below [] p x e = absurd (let z : ◌≡◌ {A = ℕ} 0 1 = cc in omega arit
 some_below (y ∷ l) zero x e = omega arith
 some_below (y ∷ l) (suc p) x e = omega (arith, some_below l p x e)
 
-within_test : (b : Bool) (p q last : ℕ) → (T b → p ≤ last) → (if b then To p else Astray) ≡ To q → q ≤ last
+within_test : (b : Bool) (p q last : ℕ) → (T b → p ≤ last) → (if b then Some p else None) ≡ Some q → q ≤ last
 within_test true p q last h e = let same : p ≡ q = cc in omega (arith, h tt)
 within_test false p q last h e = absurd (let z : ◌≡◌ {A = ℕ} 0 1 = cc in omega arith)
 
-within_last : (last : ℕ) (z : ℤ) (q : ℕ) → within last z ≡ To q → q ≤ last
+within_last : (last : ℕ) (z : ℤ) (q : ℕ) → within last z ≡ Some q → q ≤ last
 unfolding within
 within_last last (pos p) q e = within_test (leb p last) p q last (leb→le p last) e
 within_last last (negsuc p) q e = absurd (let z : ◌≡◌ {A = ℕ} 0 1 = cc in omega arith)
 
 -- a target is at most the end position
-pub target_within : (p : ℕ) (i : ℤ) (last q : ℕ) → target p i last ≡ To q → q ≤ last
+pub target_within : (p : ℕ) (i : ℤ) (last q : ℕ) → target p i last ≡ Some q → q ≤ last
 unfolding target
 target_within p i last q = within_last last (pos (suc p) +ℤ i) q
 
@@ -95,11 +94,11 @@ module _ {M Name : Type 0} (sum : ℤ → ℤ → Sum) (D : ℕ) (o : Memory M N
   sum_goes (fits z) p k m l q = push_goes z p k m l q
   sum_goes out p k m l q = tt
 
-  land_goes : (t : Target) (p k : ℕ) (m : M) → ((q : ℕ) → t ≡ To q → q ≤ last) → k ≤ D → Q m
+  land_goes : (t : Target) (p k : ℕ) (m : M) → ((q : ℕ) → t ≡ Some q → q ≤ last) → k ≤ D → Q m
       → Goes (land sum D o last t (at p k m)) (λ _. Within)
   unfolding land
-  land_goes (To p') p k m b d q = (b p' refl, d, q)
-  land_goes Astray p k m b d q = tt
+  land_goes (Some p') p k m b d q = (b p' refl, d, q)
+  land_goes None p k m b d q = tt
 
   jump_goes : (i : ℤ) (p k : ℕ) (m : M) → k ≤ D → Q m → Goes (jump sum D o last i (at p k m)) (λ _. Within)
   unfolding jump

@@ -15,7 +15,7 @@ use Rattle.std.specs.Prelude.{if◌then◌else◌}
 use Rattle.base.specs.Acts.{Outcome, ok, ended, then'}
 use Rattle.word.specs.Sums.{Sum, fits, out, SumRule}
 use Rattle.word.specs.Targets.{target}
-use Rattle.word.specs.declared.Target.TheVariants.{To, Astray}
+use Rattle.std.specs.Prelude.{Some, None}
 use Rattle.record.specs.Records.{Record, ADD, STORE, JMPLESS, JMPGE}
 use Rattle.base.specs.Ends.{Fault, End, fault, result}
 use Rattle.machine.specs.Machine.{Memory, Machine, at, taken, pop, push, keep}
@@ -99,11 +99,11 @@ module _ {M Name : Type 0} (sum : ℤ → ℤ → Sum) (D : ℕ) (o : Memory M N
 
   -- ---- jumps
 
-  pub jump_to : (i : ℤ) (p t k : ℕ) (m : M) → target p i last ≡ To t
+  pub jump_to : (i : ℤ) (p t k : ℕ) (m : M) → target p i last ≡ Some t
       → jump sum D o last i (at p k m) ≡ ok tt (at t k m)
   jump_to i p t k m e = land_on sum D o last i p k m t e
 
-  pub jump_astray : (i : ℤ) (p k : ℕ) (m : M) → target p i last ≡ Astray
+  pub jump_astray : (i : ℤ) (p k : ℕ) (m : M) → target p i last ≡ None
       → jump sum D o last i (at p k m) ≡ ended Fault.astray
   unfolding jump land
   jump_astray i p k m e = ap (λ t. land sum D o last t (at p k m)) e

@@ -13,9 +13,8 @@ use Rattle.std.specs.Prelude.{if◌then◌else◌}
 use Rattle.base.specs.Acts.{Outcome, ok, ended, Act, then'}
 use Rattle.base.specs.Ends.{Fault, End, fault, Result, result}
 use Rattle.word.specs.Sums.{Sum, fits, out, SumRule, stopping, holding, stopping_at, Extends}
-use Rattle.word.specs.Targets.{target}
-use Rattle.word.specs.declared.Target.{Target}
-use Rattle.word.specs.declared.Target.TheVariants.{To, Astray}
+use Rattle.word.specs.Targets.{Target, target}
+use Rattle.std.specs.Prelude.{Some, None}
 use Rattle.word.proofs.Claims.{same_within}
 use Rattle.record.specs.Records.{Record, LOADI, LOAD, ADD, STORE, JMP, JMPLESS, JMPGE}
 use Rattle.machine.specs.Machine.{Memory, Machine, at, taken, pop, push, held, keep, in_range, next, land, jump}
@@ -169,8 +168,8 @@ module _ {M Name : Type 0} (sum : ℤ → ℤ → Sum) (number : (x y : ℤ) →
 
   fine_land : (t : Target) (s : Machine M) → Fine (land sum D o last t s)
   unfolding land Fine NotOut
-  fine_land (To p) s = tt
-  fine_land Astray s = tt
+  fine_land (Some p) s = tt
+  fine_land None s = tt
 
   fine_jump : (i : ℤ) (s : Machine M) → Fine (jump sum D o last i s)
   unfolding jump

@@ -7,9 +7,8 @@ use Rattle.std.specs.Int.Signed.{lt_z}
 use Rattle.base.specs.Acts.{Outcome, ok, ended, Act, ◌>>=◌, ◌>>◌}
 use Rattle.base.specs.Ends.{Fault, short, full, out_of_range, astray, done, spent, fault, Result, result}
 use Rattle.word.specs.Sums.{Sum, fits, out, SumRule}
-use Rattle.word.specs.Targets.{target}
-use Rattle.word.specs.declared.Target.{Target}
-use Rattle.word.specs.declared.Target.TheVariants.{To, Astray}
+use Rattle.word.specs.Targets.{Target, target}
+use Rattle.std.specs.Prelude.{Some, None}
 use Rattle.record.specs.Records.{Record, LOADI, LOAD, ADD, STORE, JMP, JMPLESS, JMPGE}
 
 -- A memory: what a name holds, and stack slot i counted from the bottom
@@ -75,8 +74,8 @@ module _ {M Name : Type 0} (sum : ℤ → ℤ → Sum) (D : ℕ) (o : Memory M N
   -- "A jump adds its operand to the position of the record after it"; "astray (a taken jump to below 0 or past the end
   -- position)"
   unfoldable pub land : Target → Step (Unit {0})
-  land (To p) s = ok tt (at p s.size s.memory)
-  land Astray s = ended astray
+  land (Some p) s = ok tt (at p s.size s.memory)
+  land None s = ended astray
 
   unfoldable pub jump : ℤ → Step (Unit {0})
   jump i s = land (target s.position i last) s

@@ -1,13 +1,13 @@
 // The stack machine over any memory, the calls that run it, and what is claimed of runs and of runs in pieces. These
-// stand in specs/. Here are the state of a paused run, and the answer of a call that runs machine code.
+// stand in specs/. Here are the state of a paused run, and what a call that runs machine code gives.
 #![tactic(auto)]
 
 ghost use Rattle.std.specs.Prelude.{◌≡◌};
-ghost use Rattle.base.specs.Code.{run_answer};
-ghost use Rattle.machine.specs.Calls.{fresh_state, answer_without_state};
-ghost use Rattle.machine.specs.Code.{piece_answer};
+ghost use Rattle.base.specs.Code.{told_run};
+ghost use Rattle.machine.specs.Calls.{fresh_state, ran_of};
+ghost use Rattle.machine.specs.Code.{told_piece};
 
-use base::{End, Refusal, Run};
+use base::{End, Ended};
 
 // What a spent run hands out, and a later call takes: the position of the record due, the number of values on the
 // stack, the records counted, and the mark, the most values that there were.
@@ -19,12 +19,10 @@ pub struct State {
     pub mark: usize,
 }
 
-// The answer of a call that runs machine code: a refusal; the run's end, its count and its mark; or, where it is spent,
-// its state.
+// What a call that runs machine code gives: the run's end, its count and its mark; or, where it is spent, its state.
 #[derive(Clone, Copy)]
 pub enum Piece {
-    Refused(Refusal),
-    Ended { end: End, count: u32, mark: usize },
+    Ended(Ended),
     Paused(State),
 }
 
@@ -43,14 +41,13 @@ impl State {
 }
 
 impl Piece {
-    // The answer without the state: a run's end, its count and its mark.
-    pub fn without_state(self) -> Run
-        ensures { run_answer result ≡ answer_without_state (piece_answer self) }
+    // The same without the state: a run's end, its count and its mark.
+    pub fn without_state(self) -> Ended
+        ensures { told_run result ≡ ran_of (told_piece self) }
     {
         match self {
-            Piece::Refused(refusal) => Run::Refused(refusal),
-            Piece::Ended { end, count, mark } => Run::Ended { end, count, mark },
-            Piece::Paused(state) => Run::Ended {
+            Piece::Ended(ended) => ended,
+            Piece::Paused(state) => Ended {
                 end: End::Spent,
                 count: state.count,
                 mark: state.mark,

@@ -1,36 +1,31 @@
-// The executor of machine code: the calls `run_machine` and `go_on`, their tests and their loop. The stack and the
-// variables are cells of one lent slice. A call tests what it is given, then steps until the run ends, from a fresh
-// machine or from the state of a paused run.
+// The executor of machine code: the calls `run_machine` and `go_on`, and their tests. The stack and the variables are
+// cells of one lent slice. A call tests what it is given, then steps until the run ends, from a fresh machine or from
+// the state of a paused run.
 #![tactic(auto)]
 
 ghost use Rattle.std.specs.Prelude.{◌≡◌, ◌&&◌, ℕ, ◌+◌, ◌≤◌, leb, eqb, length};
 ghost use Rattle.base.specs.Answers.{gives, and_then};
-ghost use Rattle.base.specs.Code.{run_answer, count_answer};
+ghost use Rattle.base.specs.Code.{told_run, count_answer};
 ghost use Rattle.machine.specs.Calls.{machine_tests, state_fits, state_tests, go_on, run_machine, without_state};
-ghost use Rattle.machine.specs.Code.{piece_answer};
-ghost use Rattle.machine_step.specs.Code.{halted_result};
-ghost use Rattle.machine_step.specs.Steps.{MachinePassed};
-ghost use Rattle.machine_run.specs.Runs.{Tested, TestedState, Runs, Starts};
+ghost use Rattle.machine.specs.Code.{told_piece, piece_answer};
+ghost use Rattle.machine_run.specs.Runs.{Tested, TestedState};
 
-use base::{Count, End, Run};
+use base::{Ended, Reason, Refusal};
 use machine::{Piece, State};
-use machine_step::{Halted, Machine, Step};
+use machine_cells::{Downward, Limits};
+use machine_step::Machine;
 
 // Refusal 11's test: D and n at most 64, and D + 1 + n cells.
 fn memory_fits(length: usize, depth: u64, cells: u64) -> bool
     ensures { result ≡ leb depth 64 && (leb cells 64 && eqb length (depth + 1 + cells)) }
 {
-    if (Machine::STACK_CELLS as u64) < depth {
-        return false;
-    }
-    if (Machine::VARIABLES as u64) < cells {
-        return false;
-    }
-    length == (depth as usize) + 1 + (cells as usize)
+    depth <= Machine::STACK_CELLS as u64
+        && cells <= Machine::VARIABLES as u64
+        && length == depth as usize + 1 + cells as usize
 }
 
 // The tests of a call on machine code, in the document's order: refusals 9, 10, 11. Gives the number of records.
-pub fn test(code: &[u8], memory: &[i32], depth: u64, cells: u64) -> Count
+pub fn test(code: &[u8], memory: &[i32], depth: u64, cells: u64) -> Result<usize, Refusal>
     ensures { count_answer result
         ≡ and_then (machine_tests code.now memory.now depth cells) (λ P. gives (length P)) }
 {
@@ -51,7 +46,7 @@ fn state_fits(state: State, last: usize, depth: u64, budget: u32) -> bool
     if depth < (state.mark as u64) {
         return false;
     }
-    (state.count as u64) + (budget as u64) <= Machine::GREATEST_COUNT
+    u64::from(state.count) + u64::from(budget) <= Machine::GREATEST_COUNT
 }
 
 // The tests of a call from a state, in the document's order: refusals 9, 10, 11, 15. Gives the number of records.
@@ -62,61 +57,16 @@ pub fn test_state(
     cells: u64,
     state: State,
     budget: u32,
-) -> Count
+) -> Result<usize, Refusal>
     ensures { count_answer result
         ≡ and_then (state_tests code.now memory.now depth cells state budget)
         (λ P. gives (length P)) }
 {
-    match test(code, memory, depth, cells) {
-        Count::Refused(refusal) => Count::Refused(refusal),
-        Count::Gives(last) => {
-            if !state_fits(state, last, depth, budget) {
-                return Count::decline(15, 0);
-            }
-            Count::Gives(last)
-        }
+    let last = test(code, memory, depth, cells)?;
+    if !state_fits(state, last, depth, budget) {
+        return Err(Reason::WrongState.at(0));
     }
-}
-
-// Steps until the run ends, from a machine in code that ends at position `last`, over memory whose first `depth` cells
-// are its stack's. It is spent at the count `limit`.
-fn finish(
-    first: Machine,
-    code: &[u8],
-    memory: &mut [i32],
-    depth: usize,
-    last: usize,
-    limit: u32,
-) -> Halted
-    requires starts { Starts first depth last limit }
-    requires machine_passed { MachinePassed depth last code.now memory.old }
-    ensures runs { Runs first depth last code.now memory.old limit
-        (halted_result limit result memory.new) }
-    ensures count_le_limit { result.machine.count ≤ limit }
-{
-    let mut machine = first;
-    loop {
-        if machine.position == last {
-            return Halted {
-                end: End::Done,
-                machine,
-            };
-        }
-        if machine.count == limit {
-            return Halted {
-                end: End::Spent,
-                machine,
-            };
-        }
-        match machine.step(code, memory, depth, last) {
-            Step::Next(next) => {
-                machine = next;
-            }
-            Step::Ended(end, left) => {
-                return Halted { end, machine: left };
-            }
-        }
-    }
+    Ok(last)
 }
 
 // Runs the `last` records of code that passed the tests, from a state that passed them with a budget. `limit` is the
@@ -132,17 +82,21 @@ fn run_from(
     requires { (n : ℕ) × (budget : ℕ) × TestedState code.now memory.old depth n state budget limit last }
     ensures { (n budget : ℕ)
         → TestedState code.now memory.old depth n state budget limit last
-        → (piece_answer result, memory.new)
+        → (gives (told_piece result), memory.new)
         ≡ go_on code.now memory.old depth n state budget }
 {
-    finish(Machine::resumed(state), code, memory, depth, last, limit).piece()
+    let layout = Downward { depth };
+    let limits = Limits { layout, last };
+    Machine::resumed(state)
+        .finish(code, &mut [], memory, limits, limit)
+        .piece()
 }
 
 // Runs the `last` records of code that passed the tests, from a fresh machine.
-pub fn run_tested(code: &[u8], memory: &mut [i32], depth: usize, last: usize, budget: u32) -> Run
+pub fn run_tested(code: &[u8], memory: &mut [i32], depth: usize, last: usize, budget: u32) -> Ended
     requires { (n : ℕ) × Tested code.now memory.old depth n last }
     ensures { (n : ℕ) → Tested code.now memory.old depth n last
-        → (run_answer result, memory.new)
+        → (gives (told_run result), memory.new)
         ≡ without_state (run_machine code.now memory.old depth n budget) }
 {
     run_from(code, memory, depth, last, State::fresh(), budget).without_state()
@@ -158,22 +112,24 @@ pub fn go_on(
     cells: u64,
     state: State,
     budget: u32,
-) -> Piece
+) -> Result<Piece, Refusal>
     ensures { (piece_answer result, memory.new)
         ≡ go_on code.now memory.old depth cells state budget }
 {
-    match test_state(code, memory, depth, cells, state, budget) {
-        Count::Refused(refusal) => Piece::Refused(refusal),
-        Count::Gives(last) => {
-            let limit = state.count + budget;
-            run_from(code, memory, depth as usize, last, state, limit)
-        }
-    }
+    let last = test_state(code, memory, depth, cells, state, budget)?;
+    let limit = state.count + budget;
+    Ok(run_from(code, memory, depth as usize, last, state, limit))
 }
 
 // Runs machine code from a fresh machine, over memory with D = `depth` stack cells and n = `cells` addresses.
 // Refuses 9, 10, 11, and then leaves the memory untouched.
-pub fn run_machine(code: &[u8], memory: &mut [i32], depth: u64, cells: u64, budget: u32) -> Piece
+pub fn run_machine(
+    code: &[u8],
+    memory: &mut [i32],
+    depth: u64,
+    cells: u64,
+    budget: u32,
+) -> Result<Piece, Refusal>
     ensures { (piece_answer result, memory.new)
         ≡ run_machine code.now memory.old depth cells budget }
 {

@@ -4,6 +4,7 @@ use mathlib.Core.Path.{◌≡◌, refl, sym, ◌∙◌, ap, ap₂}
 use Prim.Native.Nat.{ℕ, ◌+◌, ◌-◌, ◌≤◌, ◌<◌, max}
 use native.Mathlib.Omega.{arith}
 use mathlib.Core.Bool.{Bool, true, false, not, beq}
+use mathlib.Core.List.{List}
 use lib.IntN.{ℤ, ◌+ℤ◌}
 use lib.Signed.{lt_z}
 use Rattle.base.specs.Acts.{ok, then'}
@@ -12,10 +13,10 @@ use Rattle.word.specs.Sums.{fits, clamped, holding}
 use Rattle.word.specs.Targets.{target}
 use Rattle.record.specs.Records.{Record, LOADI, LOAD, ADD, STORE, JMP}
 use Rattle.machine.specs.Machine.{Memory, at, held, act}
-use Rattle.machine_step.specs.Code.{stopped, moved, landed, Stepped, step_of, counted, does}
+use Rattle.machine_cells.specs.Lents.{Lent}
+use Rattle.machine_step.specs.Code.{Step, stopped, moved, landed, Stepped, step_of, counted, does}
 use Rattle.machine_step.specs.Steps.{comparing}
 use Rattle.machine_step.specs.declared.Machine.{Machine}
-use Rattle.machine_step.specs.declared.Step.{Step}
 use Rattle.machine_step.proofs.Running.{moves_to, moves_below, landed_is}
 use Rattle.machine.proofs.Steps.{push_on, push_full, add_short, add_fits, store_short, store_on}
 use Rattle.machine.proofs.Steps.{compare_stopped, compare_taken, compare_passed}
@@ -43,6 +44,19 @@ pub record Place (M Name : Type 0) : Type 0 where
   pub machine : Machine
   pub held : machine.size ≤ machine.mark
   pub memory : M
+
+-- in slices that are lent
+abbrev pub place : {M Name : Type 0} (x : Lent M Name) (last : ℕ) (s : Machine) → s.size ≤ s.mark → List ℤ → List ℤ
+    → Place M Name
+place x last s held store stack =
+    record {
+      depth = x.depth;
+      form = x.form;
+      last = last;
+      machine = s;
+      held = held;
+      memory = x.memory store stack;
+    }
 
 module _ {M Name : Type 0} (here : Place M Name) where
   abbrev D : ℕ
@@ -77,6 +91,10 @@ module _ {M Name : Type 0} (here : Place M Name) where
   -- what a record does here
   abbrev pub did : Record Name → Stepped M
   did = does D o last s m
+
+  -- what did another form of the record due did the record due
+  pub as_due : {stepped : Stepped M} {r r' : Record Name} → r ≡ r' → stepped ≡ did r → stepped ≡ did r'
+  as_due is done = done ∙ ap did is
 
   -- the second value on the stack, and the top
   abbrev pub second : ℤ

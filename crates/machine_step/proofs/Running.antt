@@ -9,17 +9,16 @@ use mathlib.Core.List.{List}
 use mathlib.Core.Option.{Option, none, some, some-injective}
 use lib.ListN.{length, get_elem?}
 use lib.IntN.{ℤ}
+use Rattle.std.specs.Prelude.{Ok, Err}
 use Rattle.base.specs.Acts.{Outcome, ok, ended}
 use Rattle.base.specs.Answers.{Answer, gives}
 use Rattle.base.specs.Ends as Ends
 use Rattle.base.specs.Ends.{Fault, fault, Result, result, Ran, ran, report}
-use Rattle.base.specs.Code.{end_of, run_answer}
-use Rattle.base.specs.declared.End.{End}
-use Rattle.base.specs.declared.Run as Code
+use Rattle.base.specs.Code.{end_of, ended as ended_with, told_run}
+use Rattle.base.specs.declared.Ended as Code
 use Rattle.word.specs.Sums.{holding}
-use Rattle.word.specs.Targets.{target}
-use Rattle.word.specs.declared.Target.{Target}
-use Rattle.word.specs.declared.Target.TheVariants.{To, Astray}
+use Rattle.word.specs.Targets.{Target, target}
+use Rattle.std.specs.Prelude.{Some, None}
 use Rattle.record.specs.Records.{Record, MachineCode}
 use Rattle.record.specs.Bytes.{Kind, record_at, records_from}
 use Rattle.record.proofs.Decoding.{in_list, none_due, Due, record_due}
@@ -28,17 +27,15 @@ use Rattle.machine.specs.Machine as Rules
 use Rattle.machine.specs.Machine.{Memory, at, fresh, land, jump, act, after, run}
 use Rattle.machine.specs.Memories.{machine_cells}
 use Rattle.machine.specs.Calls.{sums, run_from, Told, tell, piece_told}
-use Rattle.machine.specs.Code.{piece_answer}
+use Rattle.machine.specs.Code.{told_piece}
 use Rattle.machine.specs.declared.State.{State}
 use Rattle.machine.specs.declared.Piece as Machined
 use Rattle.machine.proofs.Exact.{left_most}
 use Rattle.machine.proofs.Inside.{act_within}
 use Rattle.machine.proofs.Steps.{run_done, run_spent, run_step}
-use Rattle.machine_step.specs.Code.{fresh_machine, resumed_machine, moved, landed, machine_of}
+use Rattle.machine_step.specs.Code.{Step, fresh_machine, resumed_machine, moved, landed, machine_of}
 use Rattle.machine_step.specs.Code.{Stepped, step_of, counted, does, halted_result}
 use Rattle.machine_step.specs.declared.Machine.{Machine}
-use Rattle.machine_step.specs.declared.Step.{Step}
-use Rattle.machine_step.specs.declared.Step.TheVariants.{Next, Ended}
 use Rattle.machine_step.specs.declared.Halted.{Halted}
 
 -- A step on, as the code makes it: with the mark raised to the values left,
@@ -62,8 +59,8 @@ landed_is D o last s m size i h = by (target s.position i last)
   where
     by : (t : Target) → step_of (landed s size t) m
         ≡ counted s m (land (sums 0) D o last t (at s.position size m))
-    by (To p) = unfold land in moves_below s m m p size h
-    by Astray = unfold land counted in refl
+    by (Some p) = unfold land in moves_below s m m p size h
+    by None = unfold land counted in refl
 
 -- No end is not some end.
 no_end : {A : Type 0} (a : A) → ◌≡◌ {A = Option A} none (some a) → ⊥
@@ -77,7 +74,7 @@ same_sum n = refl
 module _ {M : Type 0} (s : Machine) (m : M) where
   -- a step that brings no end: the machine that it leaves, its count and its mark
   went_on : (x : Outcome (Rules.Machine M) Fault (Unit {0})) (s' : Machine) (m' : M)
-      → step_of (Next s') m' ≡ counted s m x
+      → step_of (Ok s') m' ≡ counted s m x
       → (x ≡ ok tt (machine_of s' m')) × (s'.count ≡ s.count + 1) × (s'.mark ≡ max s.mark s'.size)
   unfolding counted
   went_on (ok a t) s' m' e = (
@@ -88,16 +85,17 @@ module _ {M : Type 0} (s : Machine) (m : M) where
   went_on (ended f) s' m' e = absurd (no_end _ (ap (λ (y : Stepped M). y.end) e))
 
   -- a step that brings an end: it is the fault's, and the machine is as it was
-  ended_by : {R : Type 0} (x : Outcome (Rules.Machine M) Fault (Unit {0})) (d : End) (s' : Machine) (m' : M)
+  ended_by : {R : Type 0} (x : Outcome (Rules.Machine M) Fault (Unit {0})) (h : Halted) (m' : M)
       (go : Rules.Machine M → R) (stop : Ends.End → ℕ → Rules.Machine M → R)
-      → step_of (Ended d s') m' ≡ counted s m x
-      → (after x go (λ e. stop (fault e) s.mark (machine_of s m)) ≡ stop (end_of d) s'.mark (machine_of s' m'))
-      × (s'.count ≡ s.count + 1)
+      → step_of (Err h) m' ≡ counted s m x
+      → (after x go (λ e. stop (fault e) s.mark (machine_of s m))
+      ≡ stop (end_of h.end) h.machine.mark (machine_of h.machine m'))
+      × (h.machine.count ≡ s.count + 1)
   unfolding counted after
-  ended_by (ok a t) d s' m' go stop e = absurd (no_end _ (sym (ap (λ (y : Stepped M). y.end) e)))
-  ended_by (ended f) d s' m' go stop e = (
+  ended_by (ok a t) h m' go stop e = absurd (no_end _ (sym (ap (λ (y : Stepped M). y.end) e)))
+  ended_by (ended f) h m' go stop e = (
     ap (λ d. stop d s.mark (machine_of s m)) (sym (some-injective _ _ (ap (λ (y : Stepped M). y.end) e)))
-        ∙ ap (λ (y : Stepped M). stop (end_of d) y.mark y.leaves) (sym e),
+        ∙ ap (λ (y : Stepped M). stop (end_of h.end) y.mark y.leaves) (sym e),
     ap (λ (y : Stepped M). y.count) e,
   )
 
@@ -126,7 +124,7 @@ module _ {M Name : Type 0} (D : ℕ) (o : Memory M Name) (P : List (Record Name)
       ∙ (λ i. after (act (same_sum n' i) D o (all i) r (machine_of s m)) (onward n') (faulted n'))
 
   -- A step that goes on: the run goes on from the machine that it leaves,
-  goes_on : (n n' : ℕ) (s' : Machine) (m' : M) → n ≡ suc n' → step_of (Next s') m' ≡ does D o last s m r
+  goes_on : (n n' : ℕ) (s' : Machine) (m' : M) → n ≡ suc n' → step_of (Ok s') m' ≡ does D o last s m r
       → run_on D o P n s m ≡ run_on D o P n' s' m'
   unfolding after
   goes_on n n' s' m' e step =
@@ -137,7 +135,7 @@ module _ {M Name : Type 0} (D : ℕ) (o : Memory M Name) (P : List (Record Name)
 
   -- which stands within its code, its values within its mark and that within D, the record counted.
   stays : (s' : Machine) (m' : M) → s.position < last → s.size ≤ s.mark → s.mark ≤ D
-      → step_of (Next s') m' ≡ does D o last s m r
+      → step_of (Ok s') m' ≡ does D o last s m r
       → (s'.position ≤ last) × (s'.size ≤ s'.mark) × (s'.mark ≤ D) × (s'.count ≡ s.count + 1)
   stays s' m' l h d step =
       let w = went_on s m outcome s' m' step in
@@ -149,11 +147,12 @@ module _ {M Name : Type 0} (D : ℕ) (o : Memory M Name) (P : List (Record Name)
       (b.0, omega arith, omega arith, w.1)
 
   -- A step that ends: the run ends by it, the record counted.
-  stops_by : (n n' : ℕ) (d : End) (s' : Machine) (m' : M) → n ≡ suc n'
-      → step_of (Ended d s') m' ≡ does D o last s m r
-      → (run_on D o P n s m ≡ result (end_of d) n' s'.mark (machine_of s' m')) × (s'.count ≡ s.count + 1)
-  stops_by n n' d s' m' e step =
-      let b = ended_by s m outcome d s' m' (onward n') (λ d μ t. result d n' μ t) step in
+  stops_by : (n n' : ℕ) (h : Halted) (m' : M) → n ≡ suc n'
+      → step_of (Err h) m' ≡ does D o last s m r
+      → (run_on D o P n s m ≡ result (end_of h.end) n' h.machine.mark (machine_of h.machine m'))
+      × (h.machine.count ≡ s.count + 1)
+  stops_by n n' h m' e step =
+      let b = ended_by s m outcome h m' (onward n') (λ d μ t. result d n' μ t) step in
       (by_step n n' e ∙ b.0, b.1)
 
 -- ---- The loop
@@ -238,7 +237,7 @@ module _ {M Name : Type 0} {course : Course M Name} {s : Machine} {m : M} (g : G
     did m' is done = sym (ap (λ x. step_of x m') is) ∙ done now_due.due now_due.there
 
     -- If it goes on, the loop keeps this, with one tick less;
-    pub going_on : {step : Step} {s' : Machine} {m' : M} → step ≡ Next s' → Done step m'
+    pub going_on : {step : Step} {s' : Machine} {m' : M} → step ≡ Ok s' → Done step m'
         → Going course s' m' × (course.budget - s'.count < left)
     going_on {s' = s'} {m' = m'} is done =
         let t = stays D o P last all s m now_due.due now_due.listed s' m' (omega (arith, g.placed)) g.held
@@ -260,29 +259,30 @@ module _ {M Name : Type 0} {course : Course M Name} {s : Machine} {m : M} (g : G
         )
 
     -- if it ends, that is the run's end.
-    pub ends_by : {step : Step} {d : End} {s' : Machine} {m' : M} → step ≡ Ended d s' → Done step m'
-        → (result (end_of d) (course.budget - s'.count) s'.mark (machine_of s' m') ≡ whole_run course)
-        × (s'.count ≤ course.budget)
-    ends_by {d = d} {s' = s'} {m' = m'} is done =
+    pub ends_by : {step : Step} {h : Halted} {m' : M} → step ≡ Err h → Done step m'
+        → (result (end_of h.end) (course.budget - h.machine.count) h.machine.mark (machine_of h.machine m')
+        ≡ whole_run course)
+        × (h.machine.count ≤ course.budget)
+    ends_by {h = h} {m' = m'} is done =
         let used : s.count ≤ course.budget = g.used in
-        let b = stops_by D o P last all s m now_due.due now_due.listed left (left - 1) d s' m' (omega arith)
+        let b = stops_by D o P last all s m now_due.due now_due.listed left (left - 1) h m' (omega arith)
         (did m' is done) in
-        let one_more : s'.count ≡ s.count + 1 = b.1 in
-        let same : course.budget - s'.count ≡ left - 1 = omega arith in
-        (ap (λ n. result (end_of d) n s'.mark (machine_of s' m')) same ∙ sym b.0 ∙ g.same, omega arith)
+        let one_more : h.machine.count ≡ s.count + 1 = b.1 in
+        let same : course.budget - h.machine.count ≡ left - 1 = omega arith in
+        let left_is = ap (λ n. result (end_of h.end) n h.machine.mark (machine_of h.machine m')) same in
+        (left_is ∙ sym b.0 ∙ g.same, omega arith)
 
 -- ---- The call's answer
 
 -- Of a run from a fresh machine, the code's answer tells what the run's result tells, where the count is within the
 -- budget.
 pub told : {M Name : Type 0} (D : ℕ) (o : Memory M Name) (P : List (Record Name)) (budget : ℕ) {s : Machine} (m : M)
-    {a : Code.Run} (r : Halted) (m' : M) → s ≡ fresh_machine
-    → a ≡ Code.Run.Ended r.end r.machine.count r.machine.mark
+    {a : Code.Ended} (r : Halted) (m' : M) → s ≡ fresh_machine → a ≡ ended_with r.end r.machine.count r.machine.mark
     → r.machine.count ≤ budget → halted_result budget r m' ≡ run_on D o P (budget - s.count) s m
     → let R = run sums D o P budget 0 (fresh m) in
-    ◌≡◌ {A = Answer Ran × M} (run_answer a, m') (gives (report budget R), R.leaves.memory)
+    ◌≡◌ {A = Answer Ran × M} (gives (told_run a), m') (gives (report budget R), R.leaves.memory)
 told D o P budget m r m' is-fresh answer within same =
-    (λ i. (run_answer (answer i), m'))
+    (λ i. (gives (told_run (answer i)), m'))
     ∙ (λ i. (gives (ran (end_of r.end) (count i) r.machine.mark), m'))
     ∙ (λ i. (gives (report budget (whole i)), (whole i).leaves.memory))
   where
@@ -302,13 +302,12 @@ module _ (D : ℕ) (P : MachineCode) (budget : ℕ) (s : State) (m : List ℤ) w
 
   pub told_from : {limit : ℕ} {first : Machine} (a : Machined.Piece) (r : Halted) (m' : List ℤ)
       → first ≡ resumed_machine s → limit ≡ s.count + budget
-      → piece_answer a
-      ≡ gives (tell (end_of r.end) r.machine.count r.machine.mark (machine_of r.machine m'))
+      → told_piece a ≡ tell (end_of r.end) r.machine.count r.machine.mark (machine_of r.machine m')
       → r.machine.count ≤ limit
       → halted_result limit r m' ≡ run_on D (machine_cells D) P (limit - first.count) first m
-      → ◌≡◌ {A = Answer Told × List ℤ} (piece_answer a, m') (gives (piece_told s budget R), R.leaves.memory)
+      → ◌≡◌ {A = Answer Told × List ℤ} (gives (told_piece a), m') (gives (piece_told s budget R), R.leaves.memory)
   told_from {limit = limit} a r m' is-first is-limit answer within same =
-      (λ i. (answer i, m'))
+      (λ i. (gives (answer i), m'))
       ∙ (λ i. (gives (tell (end_of r.end) (count i) r.machine.mark (machine_of r.machine m')), m'))
       ∙ (λ i. (gives (piece_told s budget (whole i)), (whole i).leaves.memory))
     where

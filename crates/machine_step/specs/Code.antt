@@ -1,24 +1,27 @@
 -- What the code's machines, steps and runs say. The memory that is lent beside them is a parameter.
-use Rattle.std.specs.Prelude.{ℕ, ◌+◌, ◌-◌, max}
+use Rattle.std.specs.Prelude.{ℕ, ◌+◌, ◌-◌, max, Ok, Err}
+use Rattle.std.specs.Prelude as Std
 use Rattle.std.proofs.Math.Option.{Option, none, some}
 use Rattle.base.specs.Acts.{Outcome, ok, ended}
 use Rattle.base.specs.Ends as Ends
 use Rattle.base.specs.Ends.{Fault, fault, Result, result}
 use Rattle.base.specs.Code.{end_of}
 use Rattle.base.specs.declared.End.{End}
-use Rattle.word.specs.declared.Target.{Target}
-use Rattle.word.specs.declared.Target.TheVariants.{To, Astray}
+use Rattle.std.specs.Prelude.{Some, None}
+use Rattle.word.specs.Targets.{Target}
 use Rattle.record.specs.Records.{Record}
 use Rattle.machine.specs.Machine as Rules
 use Rattle.machine.specs.Machine.{Memory, at, act}
 use Rattle.machine.specs.declared.State.{State}
 use Rattle.machine.specs.Calls.{sums}
 use Rattle.machine_step.specs.declared.Machine.{Machine}
-use Rattle.machine_step.specs.declared.Step.{Step}
-use Rattle.machine_step.specs.declared.Step.TheVariants.{Next, Ended}
 use Rattle.machine_step.specs.declared.Halted.{Halted}
 
 -- ---- Machines and steps by value
+
+-- What a step comes to: the next machine, or how the run halted
+abbrev pub Step : Type 0
+Step = Std.Result Machine Halted
 
 -- "A fresh machine has position 0, stack empty, count 0", and its stack has held nothing
 abbrev pub fresh_machine : Machine
@@ -30,16 +33,19 @@ resumed_machine s = record { position = s.position; size = s.size; count = s.cou
 
 -- The record counted and the run ended: "count the record and change nothing else"
 abbrev pub stopped : Machine → End → Step
-stopped s e = Ended e (record { position = s.position; size = s.size; count = s.count + 1; mark = s.mark })
+stopped s e = Err (record {
+  machine = record { position = s.position; size = s.size; count = s.count + 1; mark = s.mark };
+  end = e;
+})
 
 -- The record counted and the machine moved
 abbrev pub moved : Machine → ℕ → ℕ → ℕ → Step
-moved s position size mark = Next (record { position = position; size = size; count = s.count + 1; mark = mark })
+moved s position size mark = Ok (record { position = position; size = size; count = s.count + 1; mark = mark })
 
 -- The record counted and a jump taken, with `size` values left
 abbrev pub landed : Machine → ℕ → Target → Step
-landed s size (To position) = moved s position size s.mark
-landed s size Astray = stopped s End.Astray
+landed s size (Some position) = moved s position size s.mark
+landed s size None = stopped s End.Astray
 
 -- ---- What they say
 
@@ -55,8 +61,10 @@ pub record Stepped (M : Type 0) : Type 0 where
   pub leaves : Rules.Machine M
 
 abbrev pub step_of : {M : Type 0} → Step → M → Stepped M
-step_of (Next s) m = record { count = s.count; mark = s.mark; end = none; leaves = machine_of s m }
-step_of (Ended e s) m = record { count = s.count; mark = s.mark; end = some (end_of e); leaves = machine_of s m }
+step_of (Ok s) m = record { count = s.count; mark = s.mark; end = none; leaves = machine_of s m }
+step_of (Err h) m =
+    let s = h.machine in
+    record { count = s.count; mark = s.mark; end = some (end_of h.end); leaves = machine_of s m }
 
 -- What a record's outcome makes of a machine: the record is counted, and the mark is raised to the values on the stack;
 -- after a fault all but the count is as it was

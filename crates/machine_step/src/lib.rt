@@ -1,26 +1,21 @@
-// The stack machine by value, and one step of it over either memory. The records that touch only the stack are methods
-// that both executors share; LOAD, STORE and the dispatch are each executor's own.
+// The stack machine by value, one step of it and its run, over memory in either layout. A step gives the next machine,
+// or how the run halted.
 #![tactic(auto)]
 
 ghost use Rattle.std.specs.Prelude.{◌≡◌, List, ◌+◌, ◌<◌, ◌≤◌, ◌^◌, ℤ, length};
-ghost use Rattle.base.specs.Answers.{gives};
-ghost use Rattle.base.specs.Code.{end_of};
+ghost use Rattle.base.specs.Code.{end_of, ended};
 ghost use Rattle.word.specs.Targets.{target};
 ghost use Rattle.record.specs.Records.{LOADI, ADD, STORE};
 ghost use Rattle.machine.specs.Calls.{tell};
-ghost use Rattle.machine.specs.Code.{piece_answer};
-ghost use Rattle.machine_cells.specs.declared.Layout.TheVariants.{Upward, Downward};
+ghost use Rattle.machine.specs.Code.{told_piece};
 ghost use Rattle.machine_step.specs.Code.{fresh_machine, resumed_machine, stopped, moved, landed, machine_of};
-ghost use Rattle.machine_step.specs.Code.{step_of};
-ghost use Rattle.machine_step.specs.Steps.{comparing, upward, downward, OnStack, Ready};
-ghost use Rattle.machine_step.specs.Steps.{on_machine, MachineSteps, MachinePassed};
-ghost use Rattle.machine_step.specs.Steps.{assembly_of, on_assembly, AssemblySteps, AssemblyPassed};
+ghost use Rattle.machine_step.specs.Code.{step_of, halted_result};
+ghost use Rattle.machine_step.specs.Steps.{comparing, OnStack, Ready, on_lent, Steps, Passed};
+ghost use Rattle.machine_step.specs.Runs.{Runs, Starts};
 
-use base::{End, Run};
+use base::{End, Ended};
 use machine::{Piece, State};
-use machine_cells::{Layout, Limits, save_at, save_in, value_at, value_in};
-use record::{Address, Variable};
-use word::Target;
+use machine_cells::{Layout, Limits};
 
 // The position of the record due, the number of values on the stack, the records counted, and the mark: the most values
 // that there were.
@@ -32,18 +27,12 @@ pub struct Machine {
     pub mark: usize,
 }
 
-// What a step comes to: the next machine, or an end and the machine that it leaves.
-#[derive(Clone, Copy)]
-pub enum Step {
-    Next(Machine),
-    Ended(End, Machine),
-}
-
-// How a run ended, and the machine that it left.
+// The machine that a run left, and how it ended. The machine stands first, so that it lies in an `Err` where a machine
+// lies in an `Ok`, and the loop keeps it in registers.
 #[derive(Clone, Copy)]
 pub struct Halted {
-    pub end: End,
     pub machine: Machine,
+    pub end: End,
 }
 
 impl Machine {
@@ -84,27 +73,25 @@ impl Machine {
     }
 
     // The record is counted, and nothing else changes: the run ends.
-    fn stops(self, end: End) -> Step
+    fn stops(self, end: End) -> Result<Machine, Halted>
         requires { self.count + 1 < 2 ^ 32 }
         ensures { result ≡ stopped self end }
     {
-        Step::Ended(
-            end,
-            Machine {
-                position: self.position,
-                size: self.size,
-                count: self.count + 1,
-                mark: self.mark,
-            },
-        )
+        let machine = Machine {
+            position: self.position,
+            size: self.size,
+            count: self.count + 1,
+            mark: self.mark,
+        };
+        Err(Halted { end, machine })
     }
 
     // The record is counted, and the machine goes on at this position with this many values and this mark.
-    fn moves(self, position: usize, size: usize, mark: usize) -> Step
+    fn moves(self, position: usize, size: usize, mark: usize) -> Result<Machine, Halted>
         requires { self.count + 1 < 2 ^ 32 }
         ensures { result ≡ moved self position size mark }
     {
-        Step::Next(Machine {
+        Ok(Machine {
             position,
             size,
             count: self.count + 1,
@@ -113,184 +100,194 @@ impl Machine {
     }
 
     // A taken jump in code that ends at position `last`, with this many values left.
-    fn jumps(self, operand: i32, size: usize, last: usize) -> Step
+    fn jumps(self, operand: i32, size: usize, last: usize) -> Result<Machine, Halted>
         requires { (self.position < last) × (last ≤ 4096) × (self.count + 1 < 2 ^ 32) }
         ensures { result ≡ landed self size (target self.position operand last) }
     {
         match word::jump(self.position, operand, last) {
-            Target::To(position) => self.moves(position, size, self.mark),
-            Target::Astray => self.stops(End::Astray),
+            Some(position) => self.moves(position, size, self.mark),
+            None => self.stops(End::Astray),
         }
     }
 
     // LOADI: a number pushed. Below the mark there is room; at the mark the stack is full, or the mark rises.
-    fn loadi(self, lent: &mut [i32], limits: Limits, z: i32) -> Step
-        requires { Ready self limits lent.old }
-        ensures { OnStack self limits lent.old lent.new result (LOADI z) }
+    fn loadi<L: Layout>(
+        self,
+        stack: &mut [i32],
+        limits: Limits<L>,
+        z: i32,
+    ) -> Result<Machine, Halted>
+        requires { Ready self (L.lent limits.layout).depth limits.last stack.old }
+        ensures { OnStack (L.lent limits.layout) limits.last self stack.old stack.new result (LOADI z) }
     {
+        let layout = limits.layout;
         let size = self.size;
         if size < self.mark {
-            limits.poke(lent, size, z);
+            layout.poke(stack, size, z);
             return self.moves(self.position + 1, size + 1, self.mark);
         }
-        if limits.depth <= size {
+        if layout.depth() <= size {
             return self.stops(End::Full);
         }
-        limits.poke(lent, size, z);
+        layout.poke(stack, size, z);
         self.moves(self.position + 1, size + 1, size + 1)
     }
 
     // ADD: the sum of the two top values, or the limit that it is past, in their place. Short.
-    fn add(self, lent: &mut [i32], limits: Limits) -> Step
-        requires { Ready self limits lent.old }
-        ensures { OnStack self limits lent.old lent.new result ADD }
+    fn add<L: Layout>(self, stack: &mut [i32], limits: Limits<L>) -> Result<Machine, Halted>
+        requires { Ready self (L.lent limits.layout).depth limits.last stack.old }
+        ensures { OnStack (L.lent limits.layout) limits.last self stack.old stack.new result ADD }
     {
+        let layout = limits.layout;
         let size = self.size;
         if size < 2 {
             return self.stops(End::Short);
         }
-        let second = limits.peek(lent, size - 2);
-        let top = limits.peek(lent, size - 1);
-        limits.poke(lent, size - 2, word::add(second, top));
+        let second = layout.peek(stack, size - 2);
+        let top = layout.peek(stack, size - 1);
+        layout.poke(stack, size - 2, word::add(second, top));
         self.moves(self.position + 1, size - 1, self.mark)
     }
 
     // JMPLESS under the flag true, JMPGE under false: both top values taken off, and a jump where second < top is the
     // flag. Short, or astray.
-    fn compare(self, lent: &[i32], limits: Limits, flag: bool, operand: i32) -> Step
-        requires { Ready self limits lent.now }
-        ensures { OnStack self limits lent.now lent.now result (comparing flag operand) }
+    fn compare<L: Layout>(
+        self,
+        stack: &[i32],
+        limits: Limits<L>,
+        flag: bool,
+        operand: i32,
+    ) -> Result<Machine, Halted>
+        requires { Ready self (L.lent limits.layout).depth limits.last stack.now }
+        ensures { OnStack (L.lent limits.layout) limits.last self stack.now stack.now result (comparing flag operand) }
     {
+        let layout = limits.layout;
         let size = self.size;
         if size < 2 {
             return self.stops(End::Short);
         }
-        let second = limits.peek(lent, size - 2);
-        let top = limits.peek(lent, size - 1);
+        let second = layout.peek(stack, size - 2);
+        let top = layout.peek(stack, size - 1);
         if word::less(second, top) == flag {
             return self.jumps(operand, size - 2, limits.last);
         }
         self.moves(self.position + 1, size - 2, self.mark)
     }
 
-    // STORE of machine code: the top value taken off and kept at an address. Short.
-    fn store_at(self, memory: &mut [i32], limits: Limits, address: Address) -> Step
-        requires ready { Ready self limits memory.old × (limits.layout ≡ Downward) }
-        requires address_in_bounds { limits.depth + address.0 < length memory.old }
-        ensures { step_of result memory.new
-            ≡ on_machine self limits.depth limits.last memory.old (STORE address) }
+    // STORE: the top value taken off and kept under a name. Short.
+    fn store<L: Layout>(
+        self,
+        store: &mut [i32],
+        stack: &mut [i32],
+        limits: Limits<L>,
+        name: L::Name,
+    ) -> Result<Machine, Halted>
+        requires ready { Ready self (L.lent limits.layout).depth limits.last stack.old }
+        requires held { (L.lent limits.layout).Holds (length store.old) (length stack.old) name }
+        ensures { step_of result ((L.lent limits.layout).memory store.new stack.new)
+            ≡ on_lent (L.lent limits.layout) limits.last self store.old stack.old (STORE name) }
     {
+        let layout = limits.layout;
         let size = self.size;
         if size < 1 {
             return self.stops(End::Short);
         }
-        let z = limits.peek(memory, size - 1);
-        save_at(memory, limits.depth, address, z);
+        let z = layout.peek(stack, size - 1);
+        layout.save(store, stack, name, z);
         self.moves(self.position + 1, size - 1, self.mark)
     }
 
-    // STORE of assembly: the top value taken off and kept in a variable. Short.
-    fn store_in(self, store: &mut [i32], stack: &[i32], limits: Limits, variable: Variable) -> Step
-        requires ready { Ready self limits stack.now × (limits.layout ≡ Upward) }
-        requires inside { (limits.depth ≡ length stack.now) × (variable.0 < length store.old) }
-        ensures { step_of result (assembly_of store.new stack.now)
-            ≡ on_assembly self limits.last (assembly_of store.old stack.now)
-            (STORE variable) }
-    {
-        let size = self.size;
-        if size < 1 {
-            return self.stops(End::Short);
-        }
-        let z = limits.peek(stack, size - 1);
-        save_in(store, variable, z);
-        self.moves(self.position + 1, size - 1, self.mark)
-    }
-
-    // One step of machine code: the record at the machine's position.
-    pub fn step(self, code: &[u8], memory: &mut [i32], depth: usize, last: usize) -> Step
-        requires ready { Ready self (downward depth last) memory.old }
-        requires machine_passed { MachinePassed depth last code.now memory.old }
-        ensures { MachineSteps self depth last code.now memory.old
-            (step_of result memory.new) }
-    {
-        let limits = Limits {
-            layout: Layout::Downward,
-            depth,
-            last,
-        };
-        let at = self.position;
-        match record::byte_at(code, at) {
-            record::MLOADI => self.loadi(memory, limits, record::operand_at(code, at)),
-            record::MLOAD => {
-                let z = value_at(memory, depth, Address(record::name_at(code, at)));
-                self.loadi(memory, limits, z)
-            }
-            record::MADD => self.add(memory, limits),
-            record::MSTORE => self.store_at(memory, limits, Address(record::name_at(code, at))),
-            record::MJMP => self.jumps(record::operand_at(code, at), self.size, last),
-            record::MJMPLESS => self.compare(memory, limits, true, record::operand_at(code, at)),
-            _ => self.compare(memory, limits, false, record::operand_at(code, at)),
-        }
-    }
-
-    // One step of assembly.
-    pub fn step_assembly(
+    // One step: the record at the machine's position.
+    pub fn step<L: Layout>(
         self,
         code: &[u8],
         store: &mut [i32],
         stack: &mut [i32],
-        last: usize,
-    ) -> Step
-        requires ready { Ready self (upward (length stack.old) last) stack.old }
-        requires assembly_passed { AssemblyPassed last code.now store.old }
-        ensures { AssemblySteps self last code.now
-            (assembly_of store.old stack.old)
-            (step_of result (assembly_of store.new stack.new)) }
+        limits: Limits<L>,
+    ) -> Result<Machine, Halted>
+        requires ready { Ready self (L.lent limits.layout).depth limits.last stack.old }
+        requires passed { Passed (L.lent limits.layout) limits.last code.now store.old stack.old }
+        ensures { Steps (L.lent limits.layout) limits.last self code.now store.old stack.old
+            (step_of result ((L.lent limits.layout).memory store.new stack.new)) }
     {
-        let limits = Limits {
-            layout: Layout::Upward,
-            depth: stack.len(),
-            last,
-        };
+        let layout = limits.layout;
         let at = self.position;
-        match record::byte_at(code, at) {
+        match record::byte_at(code, at) - L::ABOVE {
             record::LOADI => self.loadi(stack, limits, record::operand_at(code, at)),
             record::LOAD => {
-                let z = value_in(store, Variable(record::name_at(code, at)));
+                let name = layout.named(record::name_at(code, at));
+                let z = layout.load(store, stack, name);
                 self.loadi(stack, limits, z)
             }
             record::ADD => self.add(stack, limits),
-            record::STORE => self.store_in(
-                store,
-                stack,
-                limits,
-                Variable(record::name_at(code, at)),
-            ),
-            record::JMP => self.jumps(record::operand_at(code, at), self.size, last),
+            record::STORE => {
+                let name = layout.named(record::name_at(code, at));
+                self.store(store, stack, limits, name)
+            }
+            record::JMP => self.jumps(record::operand_at(code, at), self.size, limits.last),
             record::JMPLESS => self.compare(stack, limits, true, record::operand_at(code, at)),
             _ => self.compare(stack, limits, false, record::operand_at(code, at)),
+        }
+    }
+
+    // Steps until the run ends. It is spent at the count `limit`.
+    pub fn finish<L: Layout>(
+        self,
+        code: &[u8],
+        store: &mut [i32],
+        stack: &mut [i32],
+        limits: Limits<L>,
+        limit: u32,
+    ) -> Halted
+        requires starts { Starts self (L.lent limits.layout).depth limits.last limit }
+        requires passed { Passed (L.lent limits.layout) limits.last code.now store.old stack.old }
+        ensures runs { Runs (L.lent limits.layout) limits.last self code.now store.old stack.old limit
+            (halted_result limit result ((L.lent limits.layout).memory store.new stack.new)) }
+        ensures count_le_limit { result.machine.count ≤ limit }
+    {
+        let mut machine = self;
+        loop {
+            if machine.position == limits.last {
+                return Halted {
+                    end: End::Done,
+                    machine,
+                };
+            }
+            if machine.count == limit {
+                return Halted {
+                    end: End::Spent,
+                    machine,
+                };
+            }
+            match machine.step(code, store, stack, limits) {
+                Ok(next) => {
+                    machine = next;
+                }
+                Err(halted) => {
+                    return halted;
+                }
+            }
         }
     }
 }
 
 impl Halted {
     // What a call tells of the run: its end, its count and its mark.
-    pub fn answer(self) -> Run
-        ensures { result ≡ Run.Ended self.end self.machine.count self.machine.mark }
+    pub fn answer(self) -> Ended
+        ensures { result ≡ ended self.end self.machine.count self.machine.mark }
     {
-        let end = self.end;
-        Run::Ended {
-            end,
+        Ended {
+            end: self.end,
             count: self.machine.count,
             mark: self.machine.mark,
         }
     }
 
-    // What a call on machine code tells of it: the state where the run is spent, else its end, its count and its mark.
+    // What a call on machine code gives of it: the state where the run is spent, else its end, its count and its mark.
     pub fn piece(self) -> Piece
-        ensures { (memory : List ℤ) → piece_answer result
-            ≡ gives (tell (end_of self.end) self.machine.count self.machine.mark
-            (machine_of self.machine memory)) }
+        ensures { (memory : List ℤ) → told_piece result
+            ≡ tell (end_of self.end) self.machine.count self.machine.mark
+            (machine_of self.machine memory) }
     {
         let end = self.end;
         match end {
@@ -300,11 +297,7 @@ impl Halted {
                 count: self.machine.count,
                 mark: self.machine.mark,
             }),
-            _ => Piece::Ended {
-                end,
-                count: self.machine.count,
-                mark: self.machine.mark,
-            },
+            _ => Piece::Ended(self.answer()),
         }
     }
 }

@@ -2,63 +2,36 @@
 #![tactic(auto)]
 
 ghost use Rattle.std.specs.Prelude.{◌≡◌, ◌%◌};
-ghost use Rattle.base.specs.Code.{end_of, run_answer, count_answer};
+ghost use Rattle.base.specs.Code.{number_of, end_of, run_answer, count_answer};
 ghost use Rattle.text.specs.Code.{sizes_answer};
 ghost use Rattle.pod_packing.specs.Packing.{packed_refusal, packed_sizes, packed_count, end_number, packed_run};
 
-use base::{Count, End, Refusal, Run};
-use text::Reading;
-
-// The lowest 8 bits of a number.
-fn one_byte(n: usize) -> u64
-    ensures { result ≡ n % 256 }
-{
-    (n % 256) as u64
-}
-
-// The lowest 16 bits.
-fn two_bytes(n: usize) -> u64
-    ensures { result ≡ n % 65536 }
-{
-    (n % 65536) as u64
-}
-
-// The lowest 32 bits.
-fn four_bytes(n: usize) -> u64
-    ensures { result ≡ n % 4294967296 }
-{
-    (n % 4294967296) as u64
-}
+use base::{End, Ended, Refusal};
+use text::Sizes;
 
 fn pack_refusal(refusal: Refusal) -> u64
-    ensures { result ≡ packed_refusal refusal.number refusal.place }
+    ensures { result ≡ packed_refusal (number_of refusal.reason) refusal.place }
 {
-    (refusal.number as u64) + 256 * four_bytes(refusal.place)
+    u64::from(refusal.reason.number()) + 256 * (refusal.place as u64 & 0xffff_ffff)
 }
 
-pub fn pack_sizes(reading: Reading) -> u64
-    ensures { result ≡ packed_sizes (sizes_answer reading) }
+pub fn pack_sizes(sizes: Result<Sizes, Refusal>) -> u64
+    ensures { result ≡ packed_sizes (sizes_answer sizes) }
 {
-    match reading {
-        Reading::Refused(refusal) => pack_refusal(refusal),
-        Reading::Accepted(sizes) => {
-            256 * two_bytes(sizes.records)
-                + 16777216 * one_byte(sizes.depth)
-                + 4294967296 * one_byte(sizes.cells)
-        }
-    }
+    sizes.map_or_else(pack_refusal, |sizes| {
+        256 * (sizes.records as u64 & 0xffff)
+            + 16777216 * (sizes.depth as u64 & 0xff)
+            + 4294967296 * (sizes.cells as u64 & 0xff)
+    })
 }
 
-pub fn pack_count(count: Count) -> u64
+pub fn pack_count(count: Result<usize, Refusal>) -> u64
     ensures { result ≡ packed_count (count_answer count) }
 {
-    match count {
-        Count::Refused(refusal) => pack_refusal(refusal),
-        Count::Gives(n) => 256 * two_bytes(n),
-    }
+    count.map_or_else(pack_refusal, |n| 256 * (n as u64 & 0xffff))
 }
 
-// The number of an end.
+// The number of an end, which only this packing has: `as u64` would give other numbers, since no end has 2 any more.
 fn end_number(end: End) -> u64
     ensures { result ≡ end_number (end_of end) }
 {
@@ -71,13 +44,12 @@ fn end_number(end: End) -> u64
     }
 }
 
-pub fn pack_run(run: Run) -> u64
+pub fn pack_run(run: Result<Ended, Refusal>) -> u64
     ensures { result ≡ packed_run (run_answer run) }
 {
-    match run {
-        Run::Refused(refusal) => pack_refusal(refusal),
-        Run::Ended { end, count, mark } => {
-            256 * end_number(end) + 65536 * (count as u64) + 281474976710656 * one_byte(mark)
-        }
-    }
+    run.map_or_else(pack_refusal, |ended| {
+        256 * end_number(ended.end)
+            + 65536 * u64::from(ended.count)
+            + 281474976710656 * (ended.mark as u64 & 0xff)
+    })
 }

@@ -1,6 +1,6 @@
 -- Numbers as text: a digit more or none, and how long a number's text can be. By the digits left, and by cases on the
 -- sign.
-use mathlib.Core.Path.{◌≡◌, refl, sym, ap, ◌∙◌}
+use mathlib.Core.Path.{◌≡◌, refl, sym, ap}
 use mathlib.Core.Bool.{Bool, true, false}
 use mathlib.Core.List.{[], ◌∷◌, ◌++◌}
 use Prim.Native.Nat.{ℕ, zero, suc, ◌+◌, ◌-◌, ◌*◌, ◌/◌, ◌%◌, ◌<◌, ◌≤◌}
@@ -9,12 +9,8 @@ use lib.Dec.{ltb}
 use lib.IntN.{ℤ, pos, negsuc}
 use lib.ListN.{length, length-append}
 use lib.Signed.{lt_z}
-use mir.Syntax.{w32}
-use mir.Val.{SFits, to_z, of_z}
-use mir.Facts.{to_z-of_z}
 use borrow.Author.Tests.{lt-ltb, le-ltb, ltb-true}
-use Rattle.std.specs.Prelude.{if◌then◌else◌}
-use Rattle.word.specs.Numbers.{bits_of}
+use Rattle.std.specs.Prelude.{if◌then◌else◌, unsigned_abs}
 use Rattle.print.specs.Ascii.{ascii}
 use Rattle.print.specs.Numbers.{decimal_by, decimal, signed}
 
@@ -98,31 +94,14 @@ signed_length (negsuc n) = omega (arith, decimal_length (suc n))
 
 -- ---- The sign
 
--- From 0 on a signed number is its bits,
-plain : (z : ℤ) → lt_z z (pos 0) ≡ false → signed z ≡ decimal (bits_of z)
-unfolding signed bits_of
-plain (pos n) h = refl
-plain (negsuc n) h = absurd (let no : ◌≡◌ {A = ℕ} 0 1 = cc in omega arith)
+-- From 0 on a signed number is its size,
+pub signed_plain : (z : ℤ) {n : ℕ} → n ≡ unsigned_abs z → lt_z z (pos 0) ≡ false → signed z ≡ decimal n
+unfolding signed
+signed_plain (pos m) e h = ap decimal (sym e)
+signed_plain (negsuc m) e h = absurd (let no : ◌≡◌ {A = ℕ} 0 1 = cc in omega arith)
 
--- and below 0 it is a minus, and what its bits leave of 4294967296.
-minus : (z : ℤ) → SFits w32 z → lt_z z (pos 0) ≡ true → signed z ≡ ascii "-" ++ decimal (4294967296 - bits_of z)
-unfolding signed bits_of
-minus (pos n) f h = absurd (omega (arith, ltb-true n 0 h))
-minus (negsuc n) f h =
-    let size : suc n ≡ 4294967296 - bits_of (negsuc n) = omega (arith, f.sfits) in
-    ap (λ (m : ℕ). ascii "-" ++ decimal m) size
-
--- The same of the bits n and the test b that the code made of z as it is read back.
-module _ (z : ℤ) (fits : SFits w32 z) {n : ℕ} {b : Bool} (bits : n ≡ bits_of (to_z w32 (of_z w32 z)))
-    (test : b ≡ lt_z (to_z w32 (of_z w32 z)) (pos 0)) where
-  same_bits : bits_of z ≡ n
-  same_bits = sym (bits ∙ ap bits_of (to_z-of_z fits))
-
-  tested : {t : Bool} → b ≡ t → lt_z z (pos 0) ≡ t
-  tested e = sym (test ∙ ap (λ (y : ℤ). lt_z y (pos 0)) (to_z-of_z fits)) ∙ e
-
-  pub signed_plain : b ≡ false → signed z ≡ decimal n
-  signed_plain e = plain z (tested e) ∙ ap decimal same_bits
-
-  pub signed_minus : b ≡ true → signed z ≡ ascii "-" ++ decimal (4294967296 - n)
-  signed_minus e = minus z fits (tested e) ∙ ap (λ (m : ℕ). ascii "-" ++ decimal (4294967296 - m)) same_bits
+-- and below 0 it is a minus and its size.
+pub signed_minus : (z : ℤ) {n : ℕ} → n ≡ unsigned_abs z → lt_z z (pos 0) ≡ true → signed z ≡ ascii "-" ++ decimal n
+unfolding signed
+signed_minus (pos m) e h = absurd (omega (arith, ltb-true m 0 h))
+signed_minus (negsuc m) e h = ap (λ (k : ℕ). ascii "-" ++ decimal k) (sym e)

@@ -1,56 +1,21 @@
--- Bytes put into a buffer, as lists. What stands before the place and after the bytes stays, so bytes put right behind
--- others are one put of both, and the buffer keeps its length.
+-- Bytes put into a buffer, as lists, and printed on a page. What stands before the place and after the bytes stays, so
+-- bytes put right behind others are one put of both.
 use mathlib.Core.Path.{◌≡◌, refl, sym, ap, subst, ◌∙◌}
-use mathlib.Core.List.{List, [], ◌∷◌, ◌++◌, append_assoc}
+use mathlib.Core.List.{List, [], ◌++◌, append_assoc}
 use Prim.Native.Nat.{ℕ, ◌+◌, ◌≤◌}
 use native.Mathlib.Nat.{add-zero}
-use native.Mathlib.Numerals.{add-one}
 use native.Mathlib.Omega.{arith}
-use lib.ListN.{length, take, drop, set, length-append, length-drop, take-append-drop}
-use lib.Seq.{take_at, drop_at, drop-drop, length-take-le, set_split}
-use Rattle.print_ascii.specs.Puts.{Puts}
-
--- A put of the same bytes, and the same place after them.
-pub puts_is : {new other : List ℕ} {at : ℕ} {old later : List ℕ} {next n : ℕ} → Puts new at old later next
-    → other ≡ new → n ≡ next → Puts other at old later n
-puts_is {new} {other} {at} {old} {later} {next} {n} p e f =
-    subst
-    (λ (l : List ℕ). Puts l at old later n)
-    (sym e)
-    (subst (λ (m : ℕ). Puts new at old later m) (sym f) p)
-
--- No bytes.
-pub puts_none : {at : ℕ} {old : List ℕ} → at ≤ length old → Puts [] at old old at
-puts_none {at} {old} h =
-    record { room = omega arith; holds = rw add-zero (sym (take-append-drop at old)); ends = omega arith }
-
--- One byte.
-pub puts_one : {at : ℕ} {old : List ℕ} (b : ℕ) → at + 1 ≤ length old → Puts (b ∷ []) at old (set old at b) (at + 1)
-puts_one {at} {old} b h = record { room = h; holds = rw add-one (set_split old at b (omega arith)); ends = refl }
-
--- The buffer keeps its length.
-pub kept : {new : List ℕ} {at : ℕ} {old later : List ℕ} {next : ℕ} → Puts new at old later next
-    → length later ≡ length old
-kept {new} {at} {old} p =
-    ap length p.holds
-    ∙ simp (length-append, length-drop) (omega (arith, length-take-le at old (omega (arith, p.room)), p.room))
-
--- The place after the bytes is within the buffer.
-pub puts_within : {new : List ℕ} {at : ℕ} {old later : List ℕ} {next : ℕ} → Puts new at old later next
-    → next ≤ length later
-puts_within p = omega (arith, kept p, p.room, p.ends)
-
--- What is left of a room after at most `most` bytes of it.
-pub room_left : {new : List ℕ} {at : ℕ} {old later : List ℕ} {next : ℕ} → Puts new at old later next
-    → (most left : ℕ) → length new ≤ most → at + (most + left) ≤ length old → next + left ≤ length later
-room_left p most left h room = omega (arith, kept p, p.ends)
+use lib.ListN.{length, take, drop, length-append, take-append-drop}
+use lib.Seq.{take_at, drop_at, drop-drop, length-take-le}
+use Rattle.print_ascii.specs.declared.Page.{Page}
+use Rattle.print_ascii.specs.Puts.{Puts, Prints}
 
 -- Two puts in a row are a put of the joined bytes.
-pub puts_both : {p q : List ℕ} {at : ℕ} {old xs ys : List ℕ} {r s : ℕ} → Puts p at old xs r → Puts q r xs ys s
-    → Puts (p ++ q) at old ys s
-puts_both {p} {q} {at} {old} {xs} {ys} {r} {s} v w =
+puts_both : {p q : List ℕ} {at : ℕ} {old xs ys : List ℕ} {r s : ℕ} → Puts p at old xs r → length xs ≡ length old
+    → Puts q r xs ys s → Puts (p ++ q) at old ys s
+puts_both {p} {q} {at} {old} {xs} {ys} {r} {s} v long w =
     record {
-      room = omega (arith, length-append p q, w.room, kept v, v.ends);
+      room = omega (arith, length-append p q, w.room, long, v.ends);
       holds =
           w.holds
           ∙ (λ i. take r (front i) ++ (q ++ drop (r + length q) (front i)))
@@ -81,3 +46,39 @@ puts_both {p} {q} {at} {old} {xs} {ys} {r} {s} v w =
         ∙ ap (drop (length q)) (drop_at (x ++ p) rest r reach)
         ∙ drop-drop (length q) (at + length p) old
         ∙ ap (λ (n : ℕ). drop n old) both_long
+
+-- The same bytes are printed.
+pub prints_is : {new other : List ℕ} {page later : Page} → Prints new page later → other ≡ new
+    → Prints other page later
+prints_is {page = page} {later = later} p e =
+    subst (λ (l : List ℕ). Prints l page later) (sym e) p
+
+-- None are printed.
+pub prints_none : {page : Page} → page.at ≤ length page.out.now → Prints [] page page
+prints_none {page} h =
+    record {
+      puts =
+          record {
+            room = omega arith;
+            holds = rw add-zero (sym (take-append-drop page.at page.out.now));
+            ends = omega arith;
+          };
+      long = refl;
+      same_buffer = refl;
+    }
+
+-- What is printed in two steps is the joined bytes.
+pub prints_both : {p q : List ℕ} {page later last : Page} → Prints p page later → Prints q later last
+    → Prints (p ++ q) page last
+prints_both v w =
+    record {
+      puts = puts_both v.puts v.long w.puts;
+      long = w.long ∙ v.long;
+      same_buffer = w.same_buffer ∙ v.same_buffer;
+    }
+
+-- What is left of a room after at most `most` bytes of it.
+pub room_left : {new : List ℕ} {page later : Page} → Prints new page later
+    → (most left : ℕ) → length new ≤ most → page.at + (most + left) ≤ length page.out.now
+    → later.at + left ≤ length later.out.now
+room_left p most left h room = omega (arith, p.long, p.puts.ends)

@@ -1,65 +1,68 @@
-// Bytes, words and numbers in ASCII, put into a lent buffer. Each function puts one thing at a place of the buffer and
-// gives the place after it; every other byte stays as it was (Puts). It asks for room for the longest such thing.
+// Bytes, words and numbers in ASCII, printed one after the other on a page, which is a lent buffer.
 #![tactic(auto)]
 
-ghost use Rattle.std.specs.Prelude.{[], ◌∷◌, ◌+◌, ◌≤◌, length};
+ghost use Rattle.std.specs.Prelude.{[], ◌∷◌, ◌≡◌, ◌+◌, ◌≤◌, length};
 ghost use Rattle.print.specs.Numbers.{decimal_by, decimal, signed};
-ghost use Rattle.print_ascii.specs.Puts.{Puts};
+ghost use Rattle.print_ascii.specs.Puts.{Prints};
 
 // The most digits of a number of 32 bits.
 const MOST_DIGITS: usize = 10;
 
-pub fn put_byte(out: &mut [u8], at: usize, byte: u8) -> usize
-    requires { at + 1 ≤ length out.old }
-    ensures { Puts (byte ∷ []) at out.old out.new result }
-{
-    out[at] = byte;
-    at + 1
+// A lent buffer, and the place in it where the next byte goes. Each method puts one thing there, and the place is then
+// the one after it; every other byte stays as it was (Puts). It asks for room for the longest such thing.
+#[derive(Drop)]
+pub struct Page<'a> {
+    pub out: &'a mut [u8],
+    pub at: usize,
 }
 
-pub fn put_word(out: &mut [u8], at: usize, word: &[u8]) -> usize
-    requires { at + length word.now ≤ length out.old }
-    ensures { Puts word.now at out.old out.new result }
-{
-    let mut i = 0;
-    while i < word.len() {
-        out[at + i] = word[i];
-        i += 1;
+impl<'a> Page<'a> {
+    pub fn put_byte(&mut self, byte: u8)
+        requires { self.old.at + 1 ≤ length self.old.out.now }
+        ensures { Prints (byte ∷ []) self.old self.new }
+    {
+        self.out[self.at] = byte;
+        self.at += 1;
     }
-    at + i
-}
 
-// n in decimal, by at most so many digits. Each call has one digit less left.
-fn put_digits(out: &mut [u8], at: usize, most: usize, n: usize) -> usize
-    requires { at + most ≤ length out.old }
-    ensures { Puts (decimal_by most n) at out.old out.new result }
-{
-    if most == 0 {
-        return at;
+    pub fn put_word(&mut self, word: &[u8])
+        requires { self.old.at + length word.now ≤ length self.old.out.now }
+        ensures { Prints word.now self.old self.new }
+    {
+        for byte in word {
+            self.put_byte(*byte);
+        }
     }
-    if n < 10 {
-        return put_byte(out, at, 48 + (n as u8));
-    }
-    let next = put_digits(out, at, most - 1, n / 10);
-    put_byte(out, next, 48 + ((n % 10) as u8))
-}
 
-pub fn put_decimal(out: &mut [u8], at: usize, n: usize) -> usize
-    requires { at + 10 ≤ length out.old }
-    ensures { Puts (decimal n) at out.old out.new result }
-{
-    put_digits(out, at, MOST_DIGITS, n)
-}
-
-// A minus before a number below 0: its size is what its bits leave of 4294967296.
-pub fn put_signed(out: &mut [u8], at: usize, z: i32) -> usize
-    requires { at + 11 ≤ length out.old }
-    ensures { Puts (signed z) at out.old out.new result }
-{
-    let bits = word::bits(z) as usize;
-    if word::less(z, 0) {
-        let next = put_byte(out, at, b'-');
-        return put_decimal(out, next, 4294967296 - bits);
+    // n in decimal, by at most so many digits. Each call has one digit less left.
+    fn put_digits(&mut self, most: usize, n: usize)
+        requires { self.old.at + most ≤ length self.old.out.now }
+        ensures { Prints (decimal_by most n) self.old self.new }
+    {
+        if most == 0 {
+            return;
+        }
+        if n >= 10 {
+            self.put_digits(most - 1, n / 10);
+        }
+        self.put_byte(b'0' + (n % 10) as u8);
     }
-    put_decimal(out, at, bits)
+
+    pub fn put_decimal(&mut self, n: usize)
+        requires { self.old.at + 10 ≤ length self.old.out.now }
+        ensures { Prints (decimal n) self.old self.new }
+    {
+        self.put_digits(MOST_DIGITS, n);
+    }
+
+    // A minus before a number below 0, and its size.
+    pub fn put_signed(&mut self, z: i32)
+        requires { self.old.at + 11 ≤ length self.old.out.now }
+        ensures { Prints (signed z) self.old self.new }
+    {
+        if z < 0 {
+            self.put_byte(b'-');
+        }
+        self.put_decimal(z.unsigned_abs() as usize);
+    }
 }

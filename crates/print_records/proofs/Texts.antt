@@ -19,19 +19,9 @@ use Rattle.record.proofs.Reading.{by_number}
 use Rattle.record.proofs.Decoding.{Named, as_named, as_add}
 use Rattle.print.specs.Ascii.{ascii}
 use Rattle.print.specs.Numbers.{signed}
-use Rattle.print_ascii.specs.Puts.{Puts}
-use Rattle.print_ascii.proofs.Puts.{puts_is}
 use Rattle.print_ascii.proofs.Decimals.{signed_length, decimal_below_10000}
 use Rattle.print.specs.Printing.{name_text, operand_text, record_text}
 use Rattle.print_records.specs.Lines.{operation_name, operation_operand, text_at, line_at}
-
--- ---- What a byte stands for
-
--- A byte has the name of its number above the first.
-pub named : (first byte j : ℕ) {at : ℕ} {old later : List ℕ} {next : ℕ} → byte ≡ first + j
-    → Puts (operation_name (operation 0 j)) at old later next
-    → Puts (operation_name (operation first byte)) at old later next
-named first byte j e p = puts_is p (ap operation_name (by_number first byte j e)) refl
 
 -- ---- The operand
 

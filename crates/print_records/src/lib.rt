@@ -1,95 +1,80 @@
-// The record lines that the printing program prints, assembly and machine beside each other, as bytes in a lent buffer.
-// Each function puts one thing at a place of the buffer and gives the place after it; every other byte stays (Puts).
+// The record lines that the printing program prints, assembly and machine beside each other, on a page. Each function
+// puts one thing, and asks for room for the longest such thing.
 #![tactic(auto)]
 
-ghost use Rattle.std.specs.Prelude.{ℕ, ◌+◌, ◌*◌, ◌<◌, ◌≤◌, length};
+ghost use Rattle.std.specs.Prelude.{◌≡◌, ℕ, ◌+◌, ◌*◌, ◌<◌, ◌≤◌, length};
 ghost use Rattle.record.specs.Records.{AssemblyCode, MachineCode};
 ghost use Rattle.record.specs.Bytes.{operation};
-ghost use Rattle.print_ascii.specs.Puts.{Puts};
+ghost use Rattle.print_ascii.specs.Puts.{Prints};
 ghost use Rattle.print.specs.Printing.{record_lines};
 ghost use Rattle.print_records.specs.Lines.{operation_name, text_at, line_at, Codes};
 
-use record::{LOADI, MLOADI, RECORD_BYTES};
+use print_ascii::Page;
+use record::{LOADI, MLOADI};
+
+// The name of a record by its number, LOADI's 0 to JMPGE's 6; none for another number.
+fn name(number: u8) -> &'static [u8]
+    ensures { result.now ≡ operation_name (operation 0 number) }
+{
+    match number {
+        0 => b"LOADI",
+        1 => b"LOAD",
+        2 => b"ADD",
+        3 => b"STORE",
+        4 => b"JMP",
+        5 => b"JMPLESS",
+        6 => b"JMPGE",
+        _ => b"",
+    }
+}
 
 // The name of a record by its byte, in code whose LOADI is `first`: at most 7 bytes.
-fn put_name(out: &mut [u8], at: usize, first: u8, byte: u8) -> usize
-    requires { (at + 7 ≤ length out.old) × (first ≤ 80) }
-    ensures { Puts (operation_name (operation first byte)) at out.old out.new result }
+fn put_name(page: &mut Page, first: u8, byte: u8)
+    requires { page.old.at + 7 ≤ length page.old.out.now }
+    ensures { Prints (operation_name (operation first byte)) page.old page.new }
 {
-    if byte == first {
-        return print_ascii::put_word(out, at, b"LOADI");
+    if first <= byte {
+        page.put_word(name(byte - first));
     }
-    if byte == first + 1 {
-        return print_ascii::put_word(out, at, b"LOAD");
-    }
-    if byte == first + 2 {
-        return print_ascii::put_word(out, at, b"ADD");
-    }
-    if byte == first + 3 {
-        return print_ascii::put_word(out, at, b"STORE");
-    }
-    if byte == first + 4 {
-        return print_ascii::put_word(out, at, b"JMP");
-    }
-    if byte == first + 5 {
-        return print_ascii::put_word(out, at, b"JMPLESS");
-    }
-    if byte == first + 6 {
-        return print_ascii::put_word(out, at, b"JMPGE");
-    }
-    at
 }
 
 // The record at an index: its name, and its operand after a blank unless it is ADD. At most 7 + 1 + 11 bytes.
-fn put_record(out: &mut [u8], at: usize, first: u8, code: &[u8], i: usize) -> usize
-    requires { (at + 19 ≤ length out.old) × (first ≤ 80) × (5 * i + 5 ≤ length code.now) }
-    ensures { Puts (text_at first code.now i) at out.old out.new result }
+fn put_record(page: &mut Page, first: u8, code: &[u8], i: usize)
+    requires { (page.old.at + 19 ≤ length page.old.out.now) × (first ≤ 80) × (5 * i + 5 ≤ length code.now) }
+    ensures { Prints (text_at first code.now i) page.old page.new }
 {
-    let start = RECORD_BYTES * i;
-    let byte = code[start];
+    let byte = record::byte_at(code, i);
     let add = first + 2;
-    let next = put_name(out, at, first, byte);
-    if byte == add {
-        return next;
+    put_name(page, first, byte);
+    if byte != add {
+        page.put_byte(b' ');
+        page.put_signed(record::operand_at(code, i));
     }
-    let next = print_ascii::put_byte(out, next, b' ');
-    print_ascii::put_signed(out, next, word::number_at(code, start + 1))
 }
 
 // One position: its number, its assembly record and its machine record. At most 4 + 1 + 19 + 4 + 19 + 1 bytes.
-fn put_record_line(out: &mut [u8], at: usize, assembly: &[u8], machine: &[u8], i: usize) -> usize
-    requires room { (at + 48 ≤ length out.old) × (i < 10000) }
+fn put_record_line(page: &mut Page, assembly: &[u8], machine: &[u8], i: usize)
+    requires room { (page.old.at + 48 ≤ length page.old.out.now) × (i < 10000) }
     requires i_in_bounds { (5 * i + 5 ≤ length assembly.now) × (5 * i + 5 ≤ length machine.now) }
-    ensures { Puts (line_at assembly.now machine.now i)
-        at out.old out.new result }
+    ensures { Prints (line_at assembly.now machine.now i) page.old page.new }
 {
-    let next = print_ascii::put_decimal(out, at, i);
-    let next = print_ascii::put_byte(out, next, b' ');
-    let next = put_record(out, next, LOADI, assembly, i);
-    let next = print_ascii::put_word(out, next, b" | M");
-    let next = put_record(out, next, MLOADI, machine, i);
-    print_ascii::put_byte(out, next, b'\n')
+    page.put_decimal(i);
+    page.put_byte(b' ');
+    put_record(page, LOADI, assembly, i);
+    page.put_word(b" | M");
+    put_record(page, MLOADI, machine, i);
+    page.put_byte(b'\n');
 }
 
 // The lines of both codes, `count` records each: P and Q, whatever n the machine code was tested with.
-pub fn put_record_lines(
-    out: &mut [u8],
-    at: usize,
-    assembly: &[u8],
-    machine: &[u8],
-    count: usize,
-) -> usize
-    requires room { (at + 48 * count ≤ length out.old) × (count ≤ 4096) }
+pub fn put_record_lines(page: &mut Page, assembly: &[u8], machine: &[u8], count: usize)
+    requires room { (page.old.at + 48 * count ≤ length page.old.out.now) × (count ≤ 4096) }
     requires codes { (5 * count ≤ length assembly.now) × (5 * count ≤ length machine.now) }
     ensures { (n : ℕ) (P : AssemblyCode) (Q : MachineCode)
         → Codes assembly.now machine.now count n P Q
-        → Puts (record_lines 0 P Q) at out.old out.new result }
+        → Prints (record_lines 0 P Q) page.old page.new }
 {
-    let mut next = at;
-    let mut i = 0;
-    while i < count {
-        next = put_record_line(out, next, assembly, machine, i);
-        i += 1;
+    for i in 0..count {
+        put_record_line(page, assembly, machine, i);
     }
-    next
 }

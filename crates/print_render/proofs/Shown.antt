@@ -75,7 +75,30 @@ module _ (text : List ℕ) (bytes : Bytes text) (z : Sizes) (r : Read text z) wh
         omega (arith, few c, ap (λ (z : Sizes). z.cells) r.tells),
       )
 
+  records_fit : 5 * records c ≤ 20480
+  records_fit = omega (arith, (read_fits text bytes r.read).1)
+
   -- ---- What assembling, compiling and the run of the pair left
+
+  -- Assembling is not refused,
+  pub assembles : (a a' : List ℕ) (y : Answer Sizes) → (y, a') ≡ assemble text a → 20480 ≤ length a
+      → (number place : ℕ) → y ≡ refused number place → ⊥
+  assembles a a' y assembling room number place f =
+      not_both (sym f ∙ ap (λ (p : Answer Sizes × List ℕ). p.0)
+      (assembling ∙ assembled text a r.read (omega (arith, records_fit))))
+
+  -- nor is compiling.
+  compiled_is : (m m' t t' : List ℕ) (y : Answer Sizes) → (y, code_and_table m' t') ≡ compile text (code_and_table m t)
+      → 20480 ≤ length m → length t ≡ 64
+      → ◌≡◌ {A = Answer Sizes × Compiled}
+      (y, code_and_table m' t') (gives (sizes c), code_and_table (over (machine_bytes c) m) (table (ccomp c)))
+  compiled_is m m' t t' y compiling enough long =
+      compiling ∙ compiled text (code_and_table m t) r.read long (omega (arith, records_fit))
+
+  pub compiles : (m m' t t' : List ℕ) (y : Answer Sizes) → (y, code_and_table m' t') ≡ compile text (code_and_table m t)
+      → 20480 ≤ length m → length t ≡ 64 → (number place : ℕ) → y ≡ refused number place → ⊥
+  compiles m m' t t' y compiling enough long number place f =
+      not_both (sym f ∙ ap (λ (p : Answer Sizes × Compiled). p.0) (compiled_is m m' t t' y compiling enough long))
 
   module _ (a a' : List ℕ) (y : Answer Sizes) (assembling : (y, a') ≡ assemble text a) (room : 20480 ≤ length a)
       (m m' t t' : List ℕ) (y' : Answer Sizes)
@@ -83,22 +106,15 @@ module _ (text : List ℕ) (bytes : Bytes text) (z : Sizes) (r : Read text z) wh
       (enough : 20480 ≤ length m) (long : length t ≡ 64) (s' : Store) (x : Answer Ran)
       (running : (text : List ℕ) → ByCompiler text (take (5 * z.records) m') t' z.depth
       → run_source text zeros 1000000 ≡ (x, s')) where
-    records_fit : 5 * records c ≤ 20480
-    records_fit = omega (arith, (read_fits text bytes r.read).1)
-
     assembly_left : a' ≡ over (code_bytes assembly_kind (ccomp c)) a
     assembly_left =
         ap (λ (p : Answer Sizes × List ℕ). p.1) (assembling ∙ assembled text a r.read (omega (arith, records_fit)))
 
-    compiles : ◌≡◌ {A = Answer Sizes × Compiled}
-        (y', code_and_table m' t') (gives (sizes c), code_and_table (over (machine_bytes c) m) (table (ccomp c)))
-    compiles = compiling ∙ compiled text (code_and_table m t) r.read long (omega (arith, records_fit))
-
     machine_left : m' ≡ over (machine_bytes c) m
-    machine_left = ap (λ (p : Answer Sizes × Compiled). p.1.code) compiles
+    machine_left = ap (λ (p : Answer Sizes × Compiled). p.1.code) (compiled_is m m' t t' y' compiling enough long)
 
     table_left : t' ≡ table (ccomp c)
-    table_left = ap (λ (p : Answer Sizes × Compiled). p.1.table) compiles
+    table_left = ap (λ (p : Answer Sizes × Compiled). p.1.table) (compiled_is m m' t t' y' compiling enough long)
 
     -- Both codes are the records of the command.
     codes_left : Codes a' m' z.records (cells c) (ccomp c) (to_m_prog (ccomp c))
@@ -126,7 +142,8 @@ module _ (text : List ℕ) (bytes : Bytes text) (z : Sizes) (r : Read text z) wh
       compiles =
           sym compiling
           ∙ (λ i. (
-            (ap (λ (p : Answer Sizes × Compiled). p.0) compiles ∙ ap gives (sym r.tells)) i,
+            (ap (λ (p : Answer Sizes × Compiled). p.0) (compiled_is m m' t t' y' compiling enough long)
+                ∙ ap gives (sym r.tells)) i,
             code_and_table
                 m' t',
           ));

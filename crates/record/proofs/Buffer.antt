@@ -1,8 +1,8 @@
 -- Bytes written into a buffer, as lists: what stands before the place written and after it stays, so two writes in a
 -- row are one, whichever of them comes first; and a rest that is lent and comes back is a write too.
-use mathlib.Core.Path.{◌≡◌, sym, ap, ◌∙◌}
+use mathlib.Core.Path.{◌≡◌, refl, sym, ap, ◌∙◌}
 use mathlib.Core.List.{List, [], ◌∷◌, ◌++◌, append_assoc}
-use Prim.Native.Nat.{ℕ, suc, ◌+◌, ◌-◌, ◌≤◌}
+use Prim.Native.Nat.{ℕ, ◌+◌, ◌-◌, ◌≤◌}
 use native.Mathlib.Omega.{arith}
 use lib.ListN.{length, take, drop, set, length-append, length-drop}
 use lib.Seq.{take_at, drop_at, take-add, drop-drop, length-take-le, sets-eq}
@@ -71,18 +71,14 @@ module _ (xs : List ℕ) (a : ℕ) where
   pub lent : (p ys : List ℕ) → ys ≡ over p (mid_of a (length xs - a) xs) → put_mid a (length xs - a) xs ys ≡ into a p xs
   lent p ys e = back_is xs a ys ∙ ap (λ (l : List ℕ). take a xs ++ l) (e ∙ ap (over p) (rest_is xs a))
 
--- ---- Five bytes, one after the other
+-- ---- One byte, and then some
 
-pub five_set : (a : ℕ) (b0 b1 b2 b3 b4 : ℕ) (old : List ℕ) → a + 5 ≤ length old
-    → set (set (set (set (set old a b0) (a + 1) b1) (a + 2) b2) (a + 3) b3) (a + 4) b4
-    ≡ into a (b0 ∷ b1 ∷ b2 ∷ b3 ∷ b4 ∷ []) old
-five_set a b0 b1 b2 b3 b4 old h =
-    let one : a + 1 ≡ suc a = omega arith in
-    let two : a + 2 ≡ suc (suc a) = omega arith in
-    let three : a + 3 ≡ suc (suc (suc a)) = omega arith in
-    let four : a + 4 ≡ suc (suc (suc (suc a))) = omega arith in
-    let bytes : List ℕ = b0 ∷ b1 ∷ b2 ∷ b3 ∷ b4 ∷ [] in
-    rw (one, two, three, four) (
-    sets-eq bytes old a h
-    ∙ append_assoc (take a old) bytes (drop (a + 5) old)
-    ∙ ap (λ (l : List ℕ). take a old ++ (bytes ++ l)) (sym (drop-drop 5 a old)))
+-- A byte written, and others right behind it, are one write of them all.
+pub byte_and_rest : (a k x : ℕ) (p q old : List ℕ) → q ≡ p → k ≡ length p → a + 1 + length p ≤ length old
+    → put_mid (a + 1) k (set old a x) q ≡ into a (x ∷ p) old
+byte_and_rest a k x p q old same long h =
+    let one : set old a x ≡ into a (x ∷ []) old =
+    sets-eq (x ∷ []) old a (omega arith)
+    ∙ append_assoc (take a old) (x ∷ []) (drop (a + 1) old)
+    ∙ ap (λ (l : List ℕ). take a old ++ ((x ∷ []) ++ l)) (sym (drop-drop 1 a old)) in
+    (λ i. put_mid (a + 1) (long i) (one i) (same i)) ∙ into_after a (a + 1) (x ∷ []) p old refl (omega arith)

@@ -4,5 +4,6 @@ pub mod Reading
 pub mod Tested
 pub mod Written
 pub mod Decoding
+pub mod Naming
 pub mod Buffer
 pub mod Filling

@@ -4,7 +4,7 @@ use mathlib.Core.Path.{◌≡◌, refl, sym, ap, ap₂, ◌∙◌}
 use mathlib.Core.Bool.{Bool, true}
 use mathlib.Core.List.{List, [], ◌∷◌, ◌++◌}
 use mathlib.Core.Option.{none, some}
-use Prim.Native.Nat.{ℕ, zero, suc, ◌+◌, ◌*◌, ◌<◌}
+use Prim.Native.Nat.{ℕ, zero, suc, ◌+◌, ◌-◌, ◌*◌, ◌<◌, ◌≤◌}
 use native.Mathlib.Nat.{zero-add, suc-add, add-zero}
 use native.Mathlib.Numerals.{one-add}
 use native.Mathlib.Omega.{arith}
@@ -80,6 +80,17 @@ unfolding operation
 by_none first byte h0 h1 h2 h3 h4 h5 h6 =
     simp
     (ne_eqb _ _ h0, ne_eqb _ _ h1, ne_eqb _ _ h2, ne_eqb _ _ h3, ne_eqb _ _ h4, ne_eqb _ _ h5, ne_eqb _ _ h6)
+
+-- What a byte stands for by what it is above the first, and below the first or past JMPGE.
+pub at_number : (first byte : ℕ) {d : ℕ} (j : ℕ) → (first ≤ byte) × (d ≡ byte - first) → d ≡ j
+    → operation 0 j ≡ operation first byte
+at_number first byte j h e = sym (by_number first byte j (omega (arith, h.0, h.1)))
+
+pub past_all : (first byte : ℕ) → (first ≤ byte → 6 < byte - first) → unknown ≡ operation first byte
+past_all first byte h =
+    sym (by_none first byte (λ e. omega (arith, h (omega arith))) (λ e. omega (arith, h (omega arith)))
+    (λ e. omega (arith, h (omega arith))) (λ e. omega (arith, h (omega arith))) (λ e. omega (arith, h (omega arith)))
+    (λ e. omega (arith, h (omega arith))) (λ e. omega (arith, h (omega arith))))
 
 -- What a record does
 abbrev operation_in : {Name : Type 0} → Record Name → Operation

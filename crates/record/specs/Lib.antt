@@ -3,3 +3,4 @@ pub mod Bytes
 pub mod Buffer
 pub mod Claims
 pub mod Cases
+pub mod Code

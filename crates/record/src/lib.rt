@@ -3,7 +3,9 @@
 
 ghost use Rattle.std.specs.Prelude.{◌≡◌, ◌∷◌, ◌+◌, ◌*◌, ◌<◌, ◌≤◌, length, get_or};
 ghost use Rattle.word.specs.Numbers.{number_at, bytes_of};
+ghost use Rattle.record.specs.Bytes.{operation};
 ghost use Rattle.record.specs.Buffer.{into};
+ghost use Rattle.record.specs.Code.{operation_of, named_at};
 
 // What LOAD and STORE name: a variable number (0 to 63) in assembly, an address (1 to n) in machine code.
 // Neither can be given for the other.
@@ -49,6 +51,38 @@ pub const MJMPLESS: u8 = 0x55;
 
 pub const MJMPGE: u8 = 0x56;
 
+// ---- Operations
+
+// What a record does, whichever its kind.
+#[derive(Clone, Copy)]
+pub enum Operation {
+    Loadi,
+    Load,
+    Add,
+    Store,
+    Jmp,
+    Jmpless,
+    Jmpge,
+}
+
+impl Operation {
+    // What a record's first byte stands for in code whose LOADI is `loadi`.
+    pub fn of(byte: u8, loadi: u8) -> Option<Self>
+        ensures { operation_of result ≡ operation loadi byte }
+    {
+        match byte.checked_sub(loadi)? {
+            0 => Some(Operation::Loadi),
+            1 => Some(Operation::Load),
+            2 => Some(Operation::Add),
+            3 => Some(Operation::Store),
+            4 => Some(Operation::Jmp),
+            5 => Some(Operation::Jmpless),
+            6 => Some(Operation::Jmpge),
+            _ => None,
+        }
+    }
+}
+
 // ---- Reading
 
 // The first byte of the record at an index.
@@ -67,18 +101,24 @@ pub fn operand_at(code: &[u8], i: usize) -> i32
     word::number_at(code, RECORD_BYTES * i + 1)
 }
 
-fn wide(x: u8) -> usize
-    ensures { result ≡ x }
-{
-    x as usize
-}
-
 // The operand's lowest byte, which is the name where LOAD or STORE names a number below 256.
 pub fn name_at(code: &[u8], i: usize) -> usize
     requires { 5 * i + 1 < length code.now }
     ensures { result ≡ get_or code.now (5 * i + 1) 0 }
 {
-    wide(code[RECORD_BYTES * i + 1])
+    usize::from(code[RECORD_BYTES * i + 1])
+}
+
+// The name in the record at an index, if it is LOAD or STORE, in code whose LOADI is `loadi` and whose names are below
+// 256.
+pub fn named_at(code: &[u8], i: usize, loadi: u8) -> Option<usize>
+    requires { 5 * i + 1 < length code.now }
+    ensures { result ≡ named_at loadi code.now i }
+{
+    match Operation::of(byte_at(code, i), loadi)? {
+        Operation::Load | Operation::Store => Some(name_at(code, i)),
+        _ => None,
+    }
 }
 
 // ---- Writing
@@ -89,10 +129,6 @@ pub fn put_record(out: &mut [u8], index: usize, first: u8, operand: i32)
     ensures { out.new ≡ into (5 * index) (first ∷ bytes_of operand) out.old }
 {
     let at = RECORD_BYTES * index;
-    let bytes = word::bytes(operand);
     out[at] = first;
-    out[at + 1] = bytes[0];
-    out[at + 2] = bytes[1];
-    out[at + 3] = bytes[2];
-    out[at + 4] = bytes[3];
+    out[at + 1..at + RECORD_BYTES].copy_from_slice(&word::bytes(operand));
 }

@@ -14,6 +14,11 @@ use Rattle.std.specs.Prelude.{if◌then◌else◌}
 use Rattle.word.specs.Numbers.{bits_of}
 use Rattle.record.specs.Bytes as Bytes
 use Rattle.record.specs.Bytes.{unknown, operation, name_of, option_map, is_zero, record_of}
+use mathlib.Core.Logic.{◌⊎◌, inl, inr}
+use Rattle.std.specs.Prelude.{Some}
+use Rattle.record.specs.Code.{operation_of}
+use Rattle.record.specs.declared.Operation.{Operation}
+use Rattle.record.specs.declared.Operation.TheVariants.{Loadi, Load, Add, Store, Jmp, Jmpless, Jmpge}
 use Rattle.record_test.specs.Code.{kind_of, is_some, numbered}
 use Rattle.record_test.specs.declared.Kind.{Kind}
 use Rattle.record.proofs.Reading.{by_number, by_none}
@@ -71,23 +76,37 @@ unfolding is_zero bits_of
 zero_bits (pos u) f = refl
 zero_bits (negsuc u) f = sym (ne_eqb (4294967296 - suc u) 0 (λ e. omega (arith, f.sfits)))
 
+-- ---- The record of an operation
+
+module _ {Name : Type 0} (k : Bytes.Kind Name) (z : ℤ) where
+  abbrev taken : Operation → Bool
+  taken o = is_some (record_of k (operation_of (Some o)) z)
+
+  pub named_taken : (o : Operation) → (o ≡ Load) ⊎ (o ≡ Store) → taken o ≡ is_some (name_of k z)
+  unfolding record_of
+  named_taken o (inl e) = ap taken e ∙ some_map _ (name_of k z)
+  named_taken o (inr e) = ap taken e ∙ some_map _ (name_of k z)
+
+  pub add_taken : (o : Operation) → o ≡ Add → taken o ≡ is_zero z
+  unfolding record_of
+  add_taken o e = ap taken e ∙ some_if (is_zero z) _
+
+  -- LOADI and the jumps take any operand.
+  pub rest_taken : (o : Operation) → (o ≡ Load → ⊥) → (o ≡ Add → ⊥) → (o ≡ Store → ⊥) → taken o ≡ true
+  unfolding record_of
+  rest_taken Loadi a b c = refl
+  rest_taken Load a b c = absurd (a refl)
+  rest_taken Add a b c = absurd (b refl)
+  rest_taken Store a b c = absurd (c refl)
+  rest_taken Jmp a b c = refl
+  rest_taken Jmpless a b c = refl
+  rest_taken Jmpge a b c = refl
+
 -- ---- The record of a number
 
 module _ {Name : Type 0} (k : Bytes.Kind Name) (z : ℤ) where
   abbrev tested : ℕ → Bool
   tested j = is_some (record_of k (numbered j) z)
-
-  pub load_tested : (j : ℕ) → j ≡ 1 → tested j ≡ is_some (name_of k z)
-  unfolding numbered record_of
-  load_tested j e = ap tested e ∙ some_map _ (name_of k z)
-
-  pub add_tested : (j : ℕ) → j ≡ 2 → tested j ≡ is_zero z
-  unfolding numbered record_of
-  add_tested j e = ap tested e ∙ some_if (is_zero z) _
-
-  pub store_tested : (j : ℕ) → j ≡ 3 → tested j ≡ is_some (name_of k z)
-  unfolding numbered record_of
-  store_tested j e = ap tested e ∙ some_map _ (name_of k z)
 
   -- LOADI and the jumps take any operand; past JMPGE there is nothing.
   pub rest_tested : (j : ℕ) → (j ≡ 1 → ⊥) → (j ≡ 2 → ⊥) → (j ≡ 3 → ⊥) → tested j ≡ leb j 6

@@ -10,7 +10,9 @@ use lib.Dec.{leb}
 use lib.IntN.{ℤ, pos, negsuc}
 use lib.ListN.{get_or}
 use borrow.Author.Tests.{le-leb}
-use Rattle.std.specs.Prelude.{if◌then◌else◌}
+use Rattle.std.specs.Prelude as Std
+use Rattle.std.specs.Prelude.{Some, None, if◌then◌else◌}
+use Rattle.std.proofs.lemmas.Option.{none-some, same_Some}
 use Rattle.base.specs.Answers.{Answer, gives, refused, and_then}
 use Rattle.word.specs.Numbers.{number_at}
 use Rattle.record.specs.Records.{Record, LOAD, ADD, STORE, rename}
@@ -76,22 +78,23 @@ module _ {Name : Type 0} (k : Bytes.Kind Name) (code : List ℕ) where
 
   -- What a search through the indices has shown when it stops at `index`
   pub stopped : (count index : ℕ) → index < count → ((j : ℕ) → j < index → is_some (record_at k code j) ≡ true)
-      → is_some (record_at k code index) ≡ false → Tested k code count index
+      → is_some (record_at k code index) ≡ false → Tested k code count (Some index)
   stopped count index few there missing =
       let same : 0 + index ≡ index = omega arith in
+      let refused_there : records_from k code 0 count ≡ refused 10 index =
+      rw same at (refused_on 0 index count few (λ j low high. there j (omega arith)) (rw same missing)) in
       record {
-        at_most = omega arith;
-        fails = λ h. rw same at (refused_on 0 index count few (λ j low high. there j (omega arith)) (rw same missing));
-        passes = λ e. absurd (omega arith);
+        fails =
+            λ i e. subst (λ (i : ℕ). (i < count) × (records_from k code 0 count ≡ refused 10 i)) (same_Some index i e)
+            (few, refused_there);
+        passes = λ e. absurd (none-some index (sym e));
       }
 
   -- and when it comes to the end.
-  pub passed : (count index : ℕ) → index ≡ count → ((j : ℕ) → j < index → is_some (record_at k code j) ≡ true)
-      → Tested k code count index
-  passed count index same there =
+  pub passed : (count : ℕ) → ((j : ℕ) → j < count → is_some (record_at k code j) ≡ true) → Tested k code count None
+  passed count there =
       record {
-        at_most = omega arith;
-        fails = λ h. absurd (omega arith);
+        fails = λ i e. absurd (none-some i e);
         passes = λ e. all_given 0 count (λ j low high. there j (omega arith));
       }
 
@@ -167,24 +170,25 @@ module _ {Name : Type 0} (numbers : Kind) (k : Bytes.Kind Name) (t : SameKind nu
       ∙ front_told i (record_at (kind_of numbers) code i) (records_from (kind_of numbers) code (suc i) count)
 
   -- What the test by numbers says, it says of the kind.
-  pub tested_told : (code : List ℕ) (count index : ℕ) → Tested (kind_of numbers) code count index
-      → Tested k code count index
+  pub tested_told : (code : List ℕ) (count : ℕ) {found : Std.Option ℕ} → Tested (kind_of numbers) code count found
+      → Tested k code count found
   unfolding and_then
-  tested_told code count index x =
+  tested_told code count x =
       record {
-        at_most = x.at_most;
-        fails = λ h. records_told code 0 count ∙ ap all_renamed (x.fails h);
+        fails =
+            λ i e. let f = x.fails i e in
+            (f.0, records_told code 0 count ∙ ap all_renamed f.1);
         passes =
             λ e. let p = x.passes e in
             (map (rename k.name) p.0, records_told code 0 count ∙ ap all_renamed p.1);
       }
 
   -- The same of all records of code, where a kind of the code's is known to have these numbers
-  pub tested_as : (code : List ℕ) {kind : Kind} {index : ℕ} → kind ≡ numbers
-      → Tested (kind_of kind) code (record_count code) index → Tested k code (record_count code) index
-  tested_as code {index = i} e t =
-      tested_told code (record_count code) i
-      (subst (λ (kind : Kind). Tested (kind_of kind) code (record_count code) i) e t)
+  pub tested_as : (code : List ℕ) {kind : Kind} {found : Std.Option ℕ} → kind ≡ numbers
+      → Tested (kind_of kind) code (record_count code) found → Tested k code (record_count code) found
+  tested_as code {found = o} e t =
+      tested_told code (record_count code)
+      (subst (λ (kind : Kind). Tested (kind_of kind) code (record_count code) o) e t)
 
 -- Both kinds are those that their numbers say.
 pub assembly_same : SameKind assembly_numbers assembly_kind

@@ -1,5 +1,6 @@
 -- What the code's kinds and its test of code say.
-use Rattle.std.specs.Prelude.{◌≡◌, ℕ, ◌≤◌, ◌<◌, Bool, true, false, ◌&&◌, List, eqb, leb, if◌then◌else◌}
+use Rattle.std.specs.Prelude as Std
+use Rattle.std.specs.Prelude.{◌≡◌, ℕ, ◌<◌, Bool, true, false, ◌&&◌, List, Some, None, eqb, leb, if◌then◌else◌}
 use Rattle.std.proofs.Math.Option.{Option, none, some}
 use Rattle.base.specs.Answers.{gives, refused}
 use Rattle.record.specs.Records.{Record}
@@ -47,9 +48,9 @@ numbered j =
     if eqb j 5 then jmpless else
     if eqb j 6 then jmpge else unknown
 
--- What the index that the test of `count` records gives says: below `count`, it is the place of refusal 10;
--- else these are records
-pub record Tested {Name : Type 0} (k : Bytes.Kind Name) (code : List ℕ) (count index : ℕ) : Type 0 where
-  pub at_most : index ≤ count
-  pub fails : index < count → records_from k code 0 count ≡ refused 10 index
-  pub passes : index ≡ count → (P : List (Record Name)) × (records_from k code 0 count ≡ gives P)
+-- What the test of `count` records finds says: an index, which is below `count`, is the place of refusal 10; where none
+-- is found, these are records
+pub record Tested {Name : Type 0} (k : Bytes.Kind Name) (code : List ℕ) (count : ℕ) (found : Std.Option ℕ) : Type 0
+  where
+    pub fails : (index : ℕ) → found ≡ Some index → (index < count) × (records_from k code 0 count ≡ refused 10 index)
+    pub passes : found ≡ None → (P : List (Record Name)) × (records_from k code 0 count ≡ gives P)

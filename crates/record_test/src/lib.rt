@@ -5,11 +5,12 @@ ghost use Rattle.std.specs.Prelude.{◌≡◌, ◌&&◌, ◌*◌, ◌≤◌, ltb
 ghost use Rattle.base.specs.Answers.{gives, and_then};
 ghost use Rattle.base.specs.Code.{count_answer};
 ghost use Rattle.record.specs.Bytes.{record_of, operation, whole_records};
-ghost use Rattle.record_test.specs.Code.{kind_of, assembly_numbers, machine_numbers, is_some, numbered, Tested};
+ghost use Rattle.record.specs.Code.{operation_of};
+ghost use Rattle.record_test.specs.Code.{kind_of, assembly_numbers, machine_numbers, is_some, Tested};
 ghost use Rattle.record_test.specs.Tests.{code_tests};
 
-use base::Count;
-use record::{LOADI, MLOADI, MOST_RECORDS, RECORD_BYTES, byte_at, operand_at};
+use base::{Reason, Refusal};
+use record::{LOADI, MLOADI, MOST_RECORDS, Operation, RECORD_BYTES, byte_at, operand_at};
 
 // A kind of record: the byte of its LOADI, and the least and the greatest number that is a name.
 #[derive(Clone, Copy)]
@@ -23,10 +24,7 @@ pub struct Kind {
 pub fn is_whole(code: &[u8]) -> bool
     ensures { result ≡ whole_records code.now }
 {
-    if code.len() % RECORD_BYTES != 0 {
-        return false;
-    }
-    code.len() / RECORD_BYTES <= MOST_RECORDS
+    code.len() % RECORD_BYTES == 0 && code.len() / RECORD_BYTES <= MOST_RECORDS
 }
 
 impl Kind {
@@ -37,7 +35,7 @@ impl Kind {
         Self {
             first: LOADI,
             least: 0,
-            most: base::LAST_VARIABLE as u64,
+            most: u64::from(base::LAST_VARIABLE),
         }
     }
 
@@ -56,74 +54,60 @@ impl Kind {
     fn is_name(self, bits: u32) -> bool
         ensures { result ≡ ltb bits 2147483648 && (leb self.least bits && leb bits self.most) }
     {
-        if 2147483648 <= bits {
-            return false;
-        }
-        if (bits as u64) < self.least {
-            return false;
-        }
-        (bits as u64) <= self.most
+        let name = u64::from(bits);
+        bits < 2147483648 && self.least <= name && name <= self.most
     }
 
-    // Whether the record of this number, LOADI's 0 to JMPGE's 6, may have this operand.
-    fn takes(self, number: u8, operand: i32) -> bool
-        ensures { result ≡ is_some (record_of (kind_of self) (numbered number) operand) }
+    // Whether a record of this operation may have this operand.
+    fn takes(self, operation: Operation, operand: i32) -> bool
+        ensures { result ≡ is_some (record_of (kind_of self) (operation_of (Some operation)) operand) }
     {
-        if number == 1 {
-            return self.is_name(word::bits(operand));
+        match operation {
+            Operation::Load | Operation::Store => self.is_name(word::bits(operand)),
+            Operation::Add => operand == 0,
+            _ => true,
         }
-        if number == 2 {
-            return word::bits(operand) == 0;
-        }
-        if number == 3 {
-            return self.is_name(word::bits(operand));
-        }
-        number <= 6
     }
 
     // Whether this byte and this operand are a record of this kind.
     fn is_record(self, byte: u8, operand: i32) -> bool
         ensures { result ≡ is_some (record_of (kind_of self) (operation self.first byte) operand) }
     {
-        let first = self.first;
-        if byte < first {
-            return false;
+        match Operation::of(byte, self.first) {
+            Some(operation) => self.takes(operation, operand),
+            None => false,
         }
-        self.takes(byte - first, operand)
     }
 
-    // Refusal 10's place: the index of the first that is no record of this kind, or `count` where all are.
-    pub fn mismatch(self, code: &[u8], count: usize) -> usize
+    // Refusal 10's place: the index of the first that is no record of this kind, if there is one.
+    pub fn mismatch(self, code: &[u8], count: usize) -> Option<usize>
         requires { 5 * count ≤ length code.now }
         ensures { Tested (kind_of self) code.now count result }
     {
-        let mut i = 0;
-        while i < count {
+        for i in 0..count {
             if !self.is_record(byte_at(code, i), operand_at(code, i)) {
-                return i;
+                return Some(i);
             }
-            i += 1;
         }
-        i
+        None
     }
 }
 
 // The tests of a call on machine code, in the document's order: refusals 9, 10, and 11, of which the call tells whether
 // it `fits`. Gives the number of records.
-pub fn test_machine(code: &[u8], cells: u64, fits: bool) -> Count
+pub fn test_machine(code: &[u8], cells: u64, fits: bool) -> Result<usize, Refusal>
     ensures { count_answer result
         ≡ and_then (code_tests code.now cells fits) (λ P. gives (length P)) }
 {
     if !is_whole(code) {
-        return Count::decline(9, 0);
+        return Err(Reason::NotWhole.at(0));
     }
     let last = code.len() / RECORD_BYTES;
-    let place = Kind::machine(cells).mismatch(code, last);
-    if place < last {
-        return Count::decline(10, place);
+    if let Some(place) = Kind::machine(cells).mismatch(code, last) {
+        return Err(Reason::NoRecord.at(place));
     }
     if !fits {
-        return Count::decline(11, 0);
+        return Err(Reason::WrongMemory.at(0));
     }
-    Count::Gives(last)
+    Ok(last)
 }

@@ -3,41 +3,24 @@
 // zeros.
 #![tactic(auto)]
 
-ghost use Rattle.std.specs.Prelude.{◌≤◌, length};
-ghost use Rattle.show.specs.Input.{Within};
+ghost use Rattle.std.specs.Prelude.{◌≤◌, length, IfOk};
 
 use std::io;
 use std::io::{Read, Write};
 
-// What standard input came to: so many bytes, at the start of the buffer.
-pub enum Input {
-    Read(usize),
-    Failed(io::Error),
-}
-
-// Reads once.
-fn read_once<R: Read>(from: &mut R, buffer: &mut [u8]) -> Input
-    ensures { Within result (length buffer.new) }
+// Reads until the input ends, or until the buffer is full: how many bytes, at the start of the buffer.
+fn read_input<R: Read>(from: &mut R, buffer: &mut [u8]) -> io::Result<usize>
+    ensures { IfOk result (λ n. n ≤ length buffer.new) }
 {
-    match from.read(buffer) {
-        Ok(got) => Input::Read(got),
-        Err(error) => Input::Failed(error),
-    }
-}
-
-// Reads until the input ends, or until the buffer is full.
-fn read_input<R: Read>(from: &mut R, buffer: &mut [u8]) -> Input
-    ensures { Within result (length buffer.new) }
-{
-    let mut done: usize = 0;
+    let mut done = 0;
+    // No `for`: how many turns there are is not known before.
     while done < buffer.len() {
-        match read_once(from, &mut buffer[done..]) {
-            Input::Failed(error) => return Input::Failed(error),
-            Input::Read(0) => return Input::Read(done),
-            Input::Read(more) => done += more,
+        match from.read(&mut buffer[done..])? {
+            0 => break,
+            more => done += more,
         }
     }
-    Input::Read(done)
+    Ok(done)
 }
 
 // The system's words for an error, without the number that std prints behind them.
@@ -62,8 +45,8 @@ const INPUT_BYTES: usize = text::LONGEST + 1;
 fn main(rt: HostRuntime) {
     let mut text = [0u8; INPUT_BYTES];
     let length = match read_input(&mut rt.reader(), &mut text) {
-        Input::Read(length) => length,
-        Input::Failed(error) => return report(&rt, "cannot read standard input", &error),
+        Ok(length) => length,
+        Err(error) => return report(&rt, "cannot read standard input", &error),
     };
     let mut out = print_render::output_buffer();
     let size = print_render::render(&text[..length], &mut out);

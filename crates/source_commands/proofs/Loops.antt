@@ -1,12 +1,11 @@
 -- The invariants of the two loops: what the command comes to from here is what it comes to from the start. In
 -- `execute` the second command of a sequence takes the place of the sequence; in `repeat` a WHILE does, one pass on.
-use mathlib.Core.Path.{◌≡◌, refl, sym, subst, ◌∙◌}
+use mathlib.Core.Path.{◌≡◌, sym, subst, ◌∙◌}
 use Prim.Native.Nat.{ℕ, ◌+◌, ◌-◌, ◌≤◌}
 use native.Mathlib.Nat.{le_refl}
 use native.Mathlib.Omega.{arith}
-use mathlib.Core.Bool.{Bool, true, false, not}
+use mathlib.Core.Bool.{Bool, false}
 use mathlib.Core.List.{List}
-use lib.ListN.{length}
 use Rattle.base.specs.Acts.{Outcome, ok}
 use Rattle.text.specs.Syntax.{Condition, Command, ◌⨾◌, WHILE◌DO◌}
 use Rattle.base.specs.Answers.{Refusal}
@@ -20,44 +19,29 @@ use Rattle.source_values.proofs.Steps.{gave}
 use Rattle.source_values.proofs.Compound.{under}
 use Rattle.source_commands.proofs.Commands.{doing, sequence_read, sequence_ok, body_at}
 
-pub not_true : (v : Bool) → not v ≡ true → v ≡ false
-not_true true e = sym e
-not_true false e = refl
-
-pub not_false : (v : Bool) → not v ≡ false → v ≡ true
-not_false true e = refl
-not_false false e = sym e
-
 -- ---- The loop of `execute`
 
 pub record Going (text : List ℕ) (start deepest : ℕ) (s₀ : State) (at nest : ℕ) (s : State) : Type 0 where
   pub read : Read (command text nest at)
   pub nested : nest ≤ deepest
-  pub long : length s.store ≡ 64
   pub same : placed doing (command text nest at) s ≡ placed doing (command text deepest start) s₀
-
-pub begins : (text : List ℕ) (start deepest : ℕ) (s : State) → Read (command text deepest start)
-    → length s.store ≡ 64 → Going text start deepest s start deepest s
-begins text start deepest s r l = record { read = r; nested = le_refl deepest; long = l; same = refl }
 
 -- after the first command of a sequence
 pub second_next : {text : List ℕ} {start deepest at nest next : ℕ} {s₀ s s' : State}
     (g : Going text start deepest s₀ at nest s)
     → (t : Two (command text (nest - 1) (at + 1)) (command text (nest - 1)) ◌⨾◌ g.read.part g.read.end)
-    → placed doing (command text (nest - 1) (at + 1)) s ≡ ok (tt upto next) s' → length s'.store ≡ 64
+    → placed doing (command text (nest - 1) (at + 1)) s ≡ ok (tt upto next) s'
     → Going text start deepest s₀ next (nest - 1) s'
-second_next g t p l = record {
+second_next g t p = record {
   read = sequence_read g.read.is t _ p;
   nested = let n = g.nested in omega arith;
-  long = l;
   same = sym (sequence_ok g.read.is t _ p) ∙ g.same;
 }
 
 -- ---- The loop of `repeat`
 
-pub record Turning (text : List ℕ) (at nest : ℕ) (s₀ s : State) : Type 0 where
-  pub long : length s.store ≡ 64
-  pub same : placed doing (command text nest at) s ≡ placed doing (command text nest at) s₀
+abbrev pub Turning : List ℕ → ℕ → ℕ → State → State → Type 0
+Turning text at nest s₀ s = placed doing (command text nest at) s ≡ placed doing (command text nest at) s₀
 
 low_left : {A : Type 0} {a : A} {n : ℕ} {s : State} {o : Outcomes A} → o ≡ ok a s → Low n o → s.left ≤ n
 unfolding Low

@@ -3,15 +3,16 @@
 use mathlib.Core.Path.{◌≡◌, sym, ap, subst, ◌∙◌}
 use Prim.Native.Nat.{ℕ, ◌≤◌}
 use native.Mathlib.Nat.{le_refl}
-use native.Mathlib.Omega.{arith}
 use mathlib.Core.List.{List, ◌++◌}
+use Rattle.std.specs.Prelude.{Option, Some, None, Result, Ok, Err}
 use lib.Dec.{eqb}
 use lib.IntN.{pos}
-use lib.ListN.{length, drop, replicate, length-append, length-drop}
+use lib.ListN.{length, drop, replicate}
 use borrow.Author.Tests.{eq-eqb, eqb-true, ne_eqb}
 use Rattle.base.specs.Acts.{ok}
 use Rattle.base.specs.Answers.{Answer, gives, refused, and_then}
 use Rattle.base.specs.Ends.{Ran, report}
+use Rattle.base.specs.Code.{number_of}
 use Rattle.base.specs.declared.Refusal.{Refusal}
 use Rattle.base.proofs.Answers.{gives_one}
 use Rattle.base.proofs.Settled.{needed, unless_passed, refused_first, declined, preview_made, preview_declined}
@@ -19,8 +20,6 @@ use Rattle.text.specs.Syntax.{Command}
 use Rattle.text.specs.Reading.{command, read_text}
 use Rattle.text.specs.Sizes.{sizes}
 use Rattle.text.specs.declared.Sizes.{Sizes}
-use Rattle.text.specs.declared.Reading.{Reading}
-use Rattle.text.specs.declared.Reading.TheVariants.{Refused, Accepted}
 use Rattle.text.specs.Code.{sizes_answer}
 use Rattle.text.specs.Calls.{read_call}
 use Rattle.text.proofs.Opened.{taken, read_gives, read_refuses}
@@ -34,8 +33,6 @@ use Rattle.source.proofs.Ticks.{Low, low_exec}
 use Rattle.source_values.specs.Placed.{Read, placed}
 use Rattle.source_values.proofs.Steps.{was_read, gave, stopped}
 use Rattle.source_commands.specs.Code.{went}
-use Rattle.source_commands.specs.declared.Progress.{Progress}
-use Rattle.source_commands.specs.declared.Progress.TheVariants.{On, Spent}
 use Rattle.source_commands.proofs.Commands.{doing}
 use Rattle.source_run.specs.Code.{told, runs, Runs, Laid}
 
@@ -46,29 +43,33 @@ module _ (text : List ℕ) (store : Store) where
   tests = and_then (source_tests text store) (λ c. gives (sizes c))
 
   -- by what reading comes to,
-  pub tests_refused : {k p : ℕ} → refused k p ≡ read_call text → refused k p ≡ tests
-  unfolding source_tests and_then
-  tests_refused e = simp (read_refuses text e)
+  module _ {r : Result Sizes Refusal} (reads : sizes_answer r ≡ read_call text) where
+    pub tests_refused : {why : Refusal} → r ≡ Err why → refused (number_of why.reason) why.place ≡ tests
+    unfolding source_tests and_then
+    tests_refused is = simp (read_refuses text (sym (ap sizes_answer is) ∙ reads))
 
-  pub tests_wrong_length : {s : Sizes} → gives s ≡ read_call text → (length store ≡ 64 → ⊥) → refused 8 0 ≡ tests
-  unfolding source_tests and_then
-  tests_wrong_length e h = simp ((read_gives text e).1, ne_eqb (length store) 64 h)
+    pub tests_wrong_length : {s : Sizes} → r ≡ Ok s → (length store ≡ 64 → ⊥) → refused 8 0 ≡ tests
+    unfolding source_tests and_then
+    tests_wrong_length is h =
+        simp ((read_gives text (sym (ap sizes_answer is) ∙ reads)).1, ne_eqb (length store) 64 h)
 
-  pub tests_passed : {s : Sizes} → gives s ≡ read_call text → length store ≡ 64 → gives s ≡ tests
-  unfolding source_tests and_then read_call
-  tests_passed e h = e ∙ simp ((read_gives text e).1, eq-eqb (length store) 64 h)
+    pub tests_passed : {s : Sizes} → r ≡ Ok s → length store ≡ 64 → gives s ≡ tests
+    unfolding source_tests and_then read_call
+    tests_passed is h =
+        let e = sym (ap sizes_answer is) ∙ reads in e ∙ simp ((read_gives text e).1, eq-eqb (length store) 64 h)
 
   -- and what they say: the call declines, and so does its preview,
-  module _ (budget : ℕ) {x : Reading} {why : Refusal} (tested : sizes_answer x ≡ tests)
-      (declines : x ≡ Refused why) where
-    refuses : source_tests text store ≡ refused why.number why.place
+  module _ (budget : ℕ) {x : Result Sizes Refusal} {why : Refusal} (tested : sizes_answer x ≡ tests)
+      (declines : x ≡ Err why) where
+    refuses : source_tests text store ≡ refused (number_of why.reason) why.place
     refuses = refused_first (source_tests text store) sizes (sym tested ∙ ap sizes_answer declines)
 
-    pub run_declines : (refused why.number why.place, store) ≡ run_source text store budget
+    pub run_declines : (refused (number_of why.reason) why.place, store) ≡ run_source text store budget
     unfolding run_source
     run_declines = declined (source_tests text store) _ _ store refuses
 
-    pub preview_declines : (refused why.number why.place, replicate 64 (pos 0)) ≡ preview_source text store budget
+    pub preview_declines : (refused (number_of why.reason) why.place, replicate 64 (pos 0))
+        ≡ preview_source text store budget
     unfolding preview_source
     preview_declines = preview_declined (source_tests text store) _ refuses
 
@@ -79,7 +80,7 @@ module _ (text : List ℕ) (store : Store) where
     pub is : read_text text ≡ gives text_command
     pub long : length store ≡ 64
 
-  pub passed : {x : Reading} {z : Sizes} → sizes_answer x ≡ tests → x ≡ Accepted z → Passed
+  pub passed : {x : Result Sizes Refusal} {z : Sizes} → sizes_answer x ≡ tests → x ≡ Ok z → Passed
   unfolding source_tests
   passed tested accepts =
       let all = needed (source_tests text store) (λ c. gives (sizes c)) (sym tested ∙ ap sizes_answer accepts) in
@@ -104,7 +105,7 @@ module _ (text : List ℕ) (store : Store) where
 -- ---- The run
 
 -- Where a text's command was read at its start, the ticks left and what is told of it, from what it came to
-pub record Tells (c : Command) (budget : ℕ) (store : Store) (r : Progress) (left μ : ℕ) (m : Store) : Type 0 where
+pub record Tells (c : Command) (budget : ℕ) (store : Store) (r : Option ℕ) (left μ : ℕ) (m : Store) : Type 0 where
   pub few : left ≤ budget
   pub same : (gives (told r budget left μ), m) ≡ runs c budget store
 
@@ -116,12 +117,12 @@ module _ (text : List ℕ) {c : Command} {n : ℕ} (part : command text 64 0 ≡
   low : (o : Outcomes (Unit {0})) → doing c (start budget store) ≡ o → Low budget o
   low o d = subst (Low budget) d (low_exec sums c budget (start budget store) (le_refl budget))
 
-  pub tells : (r : Progress) (left μ : ℕ) (m : Store)
+  pub tells : (r : Option ℕ) (left μ : ℕ) (m : Store)
       → went r left μ m ≡ placed doing (command text 64 0) (start budget store) → Tells c budget store r left μ m
   unfolding Low end_of result_of
-  tells (On next) left μ m e =
+  tells (Some next) left μ m e =
       let d = (gave doing _ part (sym e)).0 in record { few = low _ d; same = by_rules _ d }
-  tells Spent left μ m e =
+  tells None left μ m e =
       let d = stopped doing _ part (sym e) in record { few = low _ d; same = by_rules _ d }
 
 -- ---- A text in its buffer
@@ -139,17 +140,14 @@ module _ {text buffer : List ℕ} (l : Laid text buffer) where
   pub laid_ends : {ends : List ℕ} → PartEnds text ends → PartEnds buffer ends
   laid_ends p = rw l.holds (ends_longer text l.behind p)
 
--- An accepted text over the start of a buffer of 4,096 bytes
-pub laid : (text old : List ℕ) {buffer : List ℕ} {c : Command} → read_text text ≡ gives c → length old ≡ 4096
+-- An accepted text over the start of a buffer
+pub laid : (text old : List ℕ) {buffer : List ℕ} {c : Command} → read_text text ≡ gives c
     → buffer ≡ text ++ drop (length text) old → Laid text buffer
-laid text old {c = c} is long holds = record {
+laid text old {c = c} is holds = record {
   text_command = c;
   is = is;
   behind = drop (length text) old;
   holds = holds;
-  long =
-      ap length holds ∙ length-append text _
-      ∙ (let behind = length-drop (length text) old in omega (arith, (taken text is).short));
 }
 
 -- What is run of a buffer is run of its text.

@@ -1,10 +1,13 @@
 -- Laws of rules at places: a tick by the ticks left; what a call gave; a part's rule from what its place came to; a
 -- part made of two ends where the first ends it, and goes on with the second where the first gave a value.
-use mathlib.Core.Path.{◌≡◌, refl, sym, ap, ap₂, subst, ◌∙◌}
+use mathlib.Core.Path.{◌≡◌, refl, sym, ap, subst, ◌∙◌}
 use Prim.Native.Nat.{ℕ, zero, suc, ◌+◌, ◌-◌, ◌≤◌, max}
 use native.Mathlib.Omega.{arith}
 use mathlib.Core.Bool.{Bool}
 use lib.IntN.{ℤ}
+use Rattle.std.specs.Prelude.{Option, Some, None, IsSome, ok_or, Result, Ok, Err, ◌↔◌, ◌<◌}
+use Rattle.std.specs.Result.{IsErrAnd}
+use Rattle.std.proofs.lemmas.Bool.{false≢true}
 use Rattle.base.specs.Acts.{Outcome, ok, ended, then', give}
 use Rattle.base.specs.Answers.{Refusal}
 use Rattle.text.specs.Reading.{Reader}
@@ -12,9 +15,9 @@ use Rattle.text.proofs.Opened.{Two}
 use Rattle.source.specs.Rules.{Early, spent, Store, State, state, Ending, ending, Rule, Outcomes, charge, tick}
 use Rattle.source_values.specs.Placed.{Read, Reached, ◌upto◌, placed, reaching}
 use Rattle.source_values.specs.Code.{valued, Within, tested}
-use Rattle.source_values.specs.declared.Value.{Value}
-use Rattle.source_values.specs.declared.Value.TheVariants.{Of as OfValue, Spent as SpentValue}
-use Rattle.source_values.specs.declared.Truth.{Truth}
+use Rattle.source_values.specs.declared.Evaluated.{Evaluated}
+use Rattle.source_values.specs.declared.Spent.{Spent}
+use Rattle.source_values.specs.declared.Tested.{Tested}
 
 -- ---- A tick
 
@@ -42,6 +45,27 @@ tick_one s e = by s.left refl
     by (suc n) f =
         unfold charge in ap (λ (k : ℕ). ok tt (state k s.height s.mark s.store)) (omega arith)
 
+-- What asking for a tick gave, says whether one was left.
+pub none_left : {A : Type 0} (o : Option A) (n : ℕ) → IsSome o ↔ (0 < n) → o ≡ None → n ≡ 0
+none_left None zero i e = refl
+none_left None (suc n) i e = absurd (false≢true (i.1 (omega arith)))
+none_left (Some x) n i e = cc
+
+pub some_left : {A : Type 0} {x : A} (o : Option A) (n : ℕ) → IsSome o ↔ (0 < n) → o ≡ Some x → n ≡ 0 → ⊥
+some_left None n i e = cc
+some_left (Some x) n i e = λ z. let some : 0 < n = i.0 refl in omega arith
+
+-- Where one was refused, that is the answer.
+pub refused_so : {A B : Type 0} (r : Result A Spent) (o : Option B) {e f : Spent} → IsErrAnd r (λ x. x ≡ f)
+    → ◌≡◌ {A = Result B Spent} (Err f) (ok_or o e) → o ≡ None → r ≡ Err e
+refused_so (Ok x) o h v p = absurd h
+refused_so (Err x) None h v p = cc
+refused_so (Err x) (Some y) h v p = cc
+
+pub carried : {A : Type 0} (r : Result A Spent) {f : Spent} → IsErrAnd r (λ x. x ≡ f) → r ≡ Err f
+carried (Ok x) h = absurd h
+carried (Err x) h = ap Err h
+
 -- A tick and then more
 module _ {B : Type 0} (n : ℕ) (s : State) (k : Unit {0} → Rule B) where
   pub spends : s.left ≡ 0 → reaching n (then' (tick s) k) ≡ ended (spent, left_so s)
@@ -61,32 +85,31 @@ stays_marked left h μ m l =
     let same : max μ (h + 0) ≡ μ = omega arith in ap (λ μ. ended (spent, ending left μ m)) same
 
 -- One value was.
-pub pushed_one : (left h μ : ℕ) (m : Store) {n : ℕ} {z z' : ℤ} → z ≡ z'
+pub pushed_one : (h μ : ℕ) (m : Store) {left left' n : ℕ} {z z' : ℤ} → left ≡ left' → z ≡ z'
     → ◌≡◌ {A = Outcomes (Reached ℤ)} (ok (z upto n) (state left (suc h) (max μ (h + 1)) m))
-    (ok (z' upto n) (state left (suc h) (max μ (suc h)) m))
-pushed_one left h μ m {n = n} e =
-    let same : max μ (h + 1) ≡ max μ (suc h) = omega arith in
-    ap₂ (λ z μ. ok (z upto n) (state left (suc h) μ m)) e same
+    (ok (z' upto n) (state left' (suc h) (max μ (suc h)) m))
+pushed_one h μ m {n = n} l e =
+    let same : max μ (h + 1) ≡ max μ (suc h) = omega arith in cc
 
 -- Of two sides, the second one value higher
 pub joined : (h μ first second : ℕ) {high : ℕ} → high ≡ max first (second + 1)
     → max μ (h + high) ≡ max (max μ (h + first)) (suc h + second)
 joined h μ first second e = omega arith
 
-pub within_told : (most : ℕ) {r r' : Value} → r ≡ r' → Within r most → Within r' most
+pub within_told : (most : ℕ) {r r' : Result Evaluated Spent} → r ≡ r' → Within r most → Within r' most
 within_told most e w = subst (λ r. Within r most) e w
 
-pub within_more : (r : Value) (most more : ℕ) → most ≤ more → Within r most → Within r more
-within_more (OfValue z high next) most more l w = (w.0, omega (arith, w.1))
-within_more (SpentValue high) most more l w = omega arith
+pub within_more : (r : Result Evaluated Spent) (most more : ℕ) → most ≤ more → Within r most → Within r more
+within_more (Ok r) most more l w = (w.0, omega (arith, w.1))
+within_more (Err e) most more l w = omega arith
 
 -- ---- What a call gave, by a match on its result, is the rules' outcome
 
-pub value_told : (left h μ : ℕ) (m : Store) {r r' : Value} {o : Outcomes (Reached ℤ)} → r ≡ r'
+pub value_told : (left h μ : ℕ) (m : Store) {r r' : Result Evaluated Spent} {o : Outcomes (Reached ℤ)} → r ≡ r'
     → valued r left h μ m ≡ o → o ≡ valued r' left h μ m
 value_told left h μ m e f = sym f ∙ ap (λ r. valued r left h μ m) e
 
-pub truth_told : (left μ : ℕ) (m : Store) {r r' : Truth} {o : Outcomes (Reached Bool)} → r ≡ r'
+pub truth_told : (left μ : ℕ) (m : Store) {r r' : Option Tested} {o : Outcomes (Reached Bool)} → r ≡ r'
     → tested r left μ m ≡ o → o ≡ tested r' left μ m
 truth_told left μ m e f = sym f ∙ ap (λ r. tested r left μ m) e
 

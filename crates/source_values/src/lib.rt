@@ -2,65 +2,81 @@
 // lent as arrays, the ticks left and the mark as numbers: a slice would be handed on through memory at each call.
 #![tactic(auto)]
 
-ghost use Rattle.std.specs.Prelude.{◌≡◌, Bool, false, List, ℕ, suc, ◌+◌, ◌≤◌, ◌<◌, max, eqb, ℤ, length, get_or};
+ghost use Rattle.std.specs.Prelude.{◌≡◌, ◌↔◌, Bool, false, IsSome, List, ℕ, suc, ◌+◌, ◌-◌, ◌≤◌, ◌<◌, max, eqb, ℤ};
+ghost use Rattle.std.specs.Prelude.{length, get_or};
 ghost use Rattle.text.specs.Syntax.{Constant, Variable, Bc};
 ghost use Rattle.text.specs.Reading.{expression, condition};
 ghost use Rattle.text_shape.specs.Shape.{width_of, constant_width, constant_at};
 ghost use Rattle.text_ends.specs.Ends.{PartEnds};
 ghost use Rattle.source.specs.Rules.{state, value, truth};
 ghost use Rattle.source.specs.Calls.{sums};
-ghost use Rattle.source_values.specs.Placed.{Read, placed, up_to, inverse};
+ghost use Rattle.base.specs.Acts.{ok};
+ghost use Rattle.source_values.specs.Placed.{Read, ◌upto◌, placed, up_to, inverse};
 ghost use Rattle.source_values.specs.Code.{summing, comparing, valued, Evaluates, Within, tested};
 
 use base::VARIABLES;
 use text_ends::part_end;
 use text_shape::{AND, BC, CONSTANT, LESS, NOT, ONE_BYTE_CONSTANT, PLUS, VARIABLE, constant_at};
 
-// What an expression comes to: its value, the most values that it had on the stack, and the position after it; or that
-// the run is spent, and the most values until then.
+// What an expression came to: the most values that it had on the stack, the position after it, and its value. (`high`
+// stands first, as in `Spent`: it is then read at one place, whichever of them an answer has.)
 #[derive(Clone, Copy)]
-pub enum Value {
-    Of {
-        value: i32,
-        high: usize,
-        next: usize,
-    },
-    Spent {
-        high: usize,
-    },
+pub struct Evaluated {
+    pub high: usize,
+    pub next: usize,
+    pub value: i32,
 }
 
-// What a condition comes to: its truth and the position after it, or that the run is spent.
+// A run that is spent in an expression, and the most values that this had on the stack until then.
 #[derive(Clone, Copy)]
-pub enum Truth {
-    Of { value: bool, next: usize },
-    Spent,
+pub struct Spent {
+    pub high: usize,
 }
 
-// The larger of two numbers.
-fn larger(x: usize, y: usize) -> usize
-    ensures { result ≡ max x y }
-{
-    if x < y {
-        return y;
-    }
-    x
+// What a condition came to, with the position after it. (As a struct of a flag and a position it has bytes between
+// them, which are copied too: a comparison was then half as slow again.)
+#[derive(Clone, Copy)]
+pub enum Tested {
+    False(usize),
+    True(usize),
 }
 
-// The mark, once so many values stood on the stack.
-pub fn raise(mark: &mut usize, high: usize)
-    ensures { mark.new ≡ max mark.old high }
-{
-    if *mark < high {
-        *mark = high;
+impl Tested {
+    fn of(value: bool, next: usize) -> Self
+        ensures { (left mark : ℕ) (m : List ℤ) → tested (Some result) left mark m
+            ≡ ok (value upto next) (state left 0 mark m) }
+    {
+        if value {
+            return Tested::True(next);
+        }
+        Tested::False(next)
     }
+
+    // The other truth.
+    fn other(self) -> Self
+        ensures { (left mark : ℕ) (m : List ℤ) → tested (Some result) left mark m
+            ≡ inverse (tested (Some self) left mark m) }
+    {
+        match self {
+            Tested::False(next) => Tested::True(next),
+            Tested::True(next) => Tested::False(next),
+        }
+    }
+}
+
+// One tick, if one is left.
+pub fn tick(left: &mut u32) -> Option<()>
+    ensures some { IsSome result ↔ (0 < left.old) }
+    ensures taken { left.new ≡ left.old - 1 }
+{
+    *left = left.checked_sub(1)?;
+    Some(())
 }
 
 // ---- Expressions
 
 // The constant at a position: one tick.
-fn constant(text: &[u8; text::LONGEST], at: usize, left: &mut u32) -> Value
-    requires text_len { length text.now ≡ 4096 }
+fn constant(text: &[u8; text::LONGEST], at: usize, left: &mut u32) -> Result<Evaluated, Spent>
     requires at_in_bounds { at + (1 + constant_width (get_or text.now at 0)) ≤ length text.now }
     ensures evaluates { (m : List ℤ) → Evaluates result left.old left.new m
         (up_to (at + (1 + constant_width (get_or text.now at 0)))
@@ -69,15 +85,12 @@ fn constant(text: &[u8; text::LONGEST], at: usize, left: &mut u32) -> Value
     ensures within { Within result 1 }
 {
     let constant = constant_at(text, at);
-    if *left == 0 {
-        return Value::Spent { high: 0 };
-    }
-    *left = *left - 1;
-    Value::Of {
+    tick(left).ok_or(Spent { high: 0 })?;
+    Ok(Evaluated {
         value: constant.value,
         high: 1,
         next: at + 1 + constant.width,
-    }
+    })
 }
 
 // The variable at a position: one tick.
@@ -86,40 +99,34 @@ fn variable(
     at: usize,
     store: &[i32; VARIABLES],
     left: &mut u32,
-) -> Value
+) -> Result<Evaluated, Spent>
     requires operand_inside { at + 1 < 4096 }
     requires variable_bound { get_or text.now (at + 1) 0 < 64 }
     ensures evaluates { Evaluates result left.old left.new store.now
         (up_to (at + 2) (value sums (Variable (get_or text.now (at + 1) 0)))) }
     ensures within { Within result 1 }
 {
-    if *left == 0 {
-        return Value::Spent { high: 0 };
-    }
-    *left = *left - 1;
-    Value::Of {
-        value: store[text[at + 1] as usize],
+    tick(left).ok_or(Spent { high: 0 })?;
+    Ok(Evaluated {
+        value: store[usize::from(text[at + 1])],
         high: 1,
         next: at + 2,
-    }
+    })
 }
 
 // The sum of two values that stood on the stack, where at most `high` stood: one tick. A sum past a limit is the limit.
-fn summed(x: i32, y: i32, high: usize, next: usize, left: &mut u32) -> Value
+fn summed(x: i32, y: i32, high: usize, next: usize, left: &mut u32) -> Result<Evaluated, Spent>
     requires { 1 ≤ high }
     ensures summed { (h mark : ℕ) (m : List ℤ) → valued result left.new h mark m
         ≡ up_to next (summing x y) (state left.old (suc (suc h)) (max mark (h + high)) m) }
     ensures within { Within result high }
 {
-    if *left == 0 {
-        return Value::Spent { high };
-    }
-    *left = *left - 1;
-    Value::Of {
+    tick(left).ok_or(Spent { high })?;
+    Ok(Evaluated {
         value: word::add(x, y),
         high,
         next,
-    }
+    })
 }
 
 // The expression at a position, with the nesting left for it.
@@ -130,8 +137,7 @@ pub fn evaluate(
     nest: usize,
     store: &[i32; VARIABLES],
     left: &mut u32,
-) -> Value
-    requires text_len { length text.now ≡ 4096 }
+) -> Result<Evaluated, Spent>
     requires read { Read (expression text.now nest at) }
     ensures evaluates { Evaluates result left.old left.new store.now
         (placed (value sums) (expression text.now nest at)) }
@@ -160,30 +166,19 @@ fn plus(
     nest: usize,
     store: &[i32; VARIABLES],
     left: &mut u32,
-) -> Value
+) -> Result<Evaluated, Spent>
     requires first_byte { get_or text.now at 0 ≡ 0x12 }
-    requires text_len { length text.now ≡ 4096 }
     requires read { Read (expression text.now nest at) }
     ensures evaluates { Evaluates result left.old left.new store.now
         (placed (value sums) (expression text.now nest at)) }
     ensures within { Within result nest }
 {
-    match evaluate(text, at + 1, nest - 1, store, left) {
-        Value::Spent { high } => Value::Spent { high },
-        Value::Of {
-            value: x,
-            high: first,
-            next: middle,
-        } => match evaluate(text, middle, nest - 1, store, left) {
-            Value::Spent { high } => Value::Spent {
-                high: larger(first, high + 1),
-            },
-            Value::Of {
-                value: y,
-                high,
-                next,
-            } => summed(x, y, larger(first, high + 1), next, left),
-        },
+    let x = evaluate(text, at + 1, nest - 1, store, left)?;
+    match evaluate(text, x.next, nest - 1, store, left) {
+        Err(spent) => Err(Spent {
+            high: x.high.max(spent.high + 1),
+        }),
+        Ok(y) => summed(x.value, y.value, x.high.max(y.high + 1), y.next, left),
     }
 }
 
@@ -195,8 +190,7 @@ pub fn right_side(
     nest: usize,
     store: &[i32; VARIABLES],
     left: &mut u32,
-) -> Value
-    requires text_len { length text.now ≡ 4096 }
+) -> Result<Evaluated, Spent>
     requires read { Read (expression text.now nest at) }
     ensures { Evaluates result left.old left.new store.now
         (placed (value sums) (expression text.now nest at)) }
@@ -210,7 +204,7 @@ pub fn right_side(
 // ---- Conditions
 
 // Bc at a position, under a flag: one tick if its value equals the flag.
-fn bc(text: &[u8; text::LONGEST], at: usize, flag: bool, left: &mut u32) -> Truth
+fn bc(text: &[u8; text::LONGEST], at: usize, flag: bool, left: &mut u32) -> Option<Tested>
     requires { at + 1 < 4096 }
     ensures { (mark : ℕ) (m : List ℤ) → tested result left.new mark m
         ≡ up_to (at + 2) (truth sums (Bc (eqb (get_or text.now (at + 1) 0) 1)) flag)
@@ -218,47 +212,18 @@ fn bc(text: &[u8; text::LONGEST], at: usize, flag: bool, left: &mut u32) -> Trut
 {
     let value = text[at + 1] == 1;
     if value == flag {
-        if *left == 0 {
-            return Truth::Spent;
-        }
-        *left = *left - 1;
-        return Truth::Of {
-            value,
-            next: at + 2,
-        };
+        tick(left)?;
     }
-    Truth::Of {
-        value,
-        next: at + 2,
-    }
-}
-
-// The other truth.
-fn inverted(t: Truth) -> Truth
-    ensures { (left mark : ℕ) (m : List ℤ) → tested result left mark m ≡ inverse (tested t left mark m) }
-{
-    match t {
-        Truth::Spent => Truth::Spent,
-        Truth::Of { value, next } => Truth::Of {
-            value: !value,
-            next,
-        },
-    }
+    Some(Tested::of(value, at + 2))
 }
 
 // Whether the left of two values that stood on the stack is smaller: one tick.
-fn compared(x: i32, y: i32, next: usize, left: &mut u32) -> Truth
+fn compared(x: i32, y: i32, next: usize, left: &mut u32) -> Option<Tested>
     ensures { (mark : ℕ) (m : List ℤ) → tested result left.new mark m
         ≡ up_to next (comparing x y) (state left.old 2 mark m) }
 {
-    if *left == 0 {
-        return Truth::Spent;
-    }
-    *left = *left - 1;
-    Truth::Of {
-        value: word::less(x, y),
-        next,
-    }
+    tick(left)?;
+    Some(Tested::of(word::less(x, y), next))
 }
 
 // Less at a position: left, right, then whether left is smaller. The right side stands one value higher.
@@ -269,35 +234,26 @@ fn smaller(
     store: &[i32; VARIABLES],
     left: &mut u32,
     mark: &mut usize,
-) -> Truth
+) -> Option<Tested>
     requires first_byte { get_or text.now at 0 ≡ 0x23 }
-    requires text_len { length text.now ≡ 4096 }
     requires read { Read (condition text.now nest at) }
     ensures { (flag : Bool) → tested result left.new mark.new store.now
         ≡ placed (λ b. truth sums b flag) (condition text.now nest at)
         (state left.old 0 mark.old store.now) }
 {
     match evaluate(text, at + 1, nest - 1, store, left) {
-        Value::Spent { high } => {
-            raise(mark, high);
-            Truth::Spent
+        Err(spent) => {
+            *mark = (*mark).max(spent.high);
+            None
         }
-        Value::Of {
-            value: x,
-            high: first,
-            next: middle,
-        } => match evaluate(text, middle, nest - 1, store, left) {
-            Value::Spent { high } => {
-                raise(mark, larger(first, high + 1));
-                Truth::Spent
+        Ok(x) => match evaluate(text, x.next, nest - 1, store, left) {
+            Err(spent) => {
+                *mark = (*mark).max(x.high.max(spent.high + 1));
+                None
             }
-            Value::Of {
-                value: y,
-                high,
-                next,
-            } => {
-                raise(mark, larger(first, high + 1));
-                compared(x, y, next, left)
+            Ok(y) => {
+                *mark = (*mark).max(x.high.max(y.high + 1));
+                compared(x.value, y.value, y.next, left)
             }
         },
     }
@@ -314,8 +270,7 @@ pub fn test(
     left: &mut u32,
     mark: &mut usize,
     ends: &[u16],
-) -> Truth
-    requires text_len { length text.now ≡ 4096 }
+) -> Option<Tested>
     requires read { Read (condition text.now nest at) }
     requires part_ends { PartEnds text.now ends.now }
     ensures { tested result left.new mark.new store.now
@@ -325,18 +280,13 @@ pub fn test(
     let op = text[at];
     match op {
         BC => return bc(text, at, flag, left),
-        NOT => return inverted(test(text, at + 1, nest - 1, !flag, store, left, mark, ends)),
-        AND => match test(text, at + 1, nest - 1, false, store, left, mark, ends) {
-            Truth::Spent => return Truth::Spent,
-            Truth::Of { value, next } => {
-                if value {
-                    return test(text, next, nest - 1, flag, store, left, mark, ends);
-                }
-                return Truth::Of {
-                    value: false,
-                    next: part_end(text, next, ends),
-                };
-            }
+        NOT => {
+            let part = test(text, at + 1, nest - 1, !flag, store, left, mark, ends)?;
+            return Some(part.other());
+        }
+        AND => match test(text, at + 1, nest - 1, false, store, left, mark, ends)? {
+            Tested::False(next) => return Some(Tested::False(part_end(text, next, ends))),
+            Tested::True(next) => return test(text, next, nest - 1, flag, store, left, mark, ends),
         },
         _ => return smaller(text, at, nest, store, left, mark),
     }
@@ -351,8 +301,7 @@ pub fn guard(
     left: &mut u32,
     mark: &mut usize,
     ends: &[u16],
-) -> Truth
-    requires text_len { length text.now ≡ 4096 }
+) -> Option<Tested>
     requires read { Read (condition text.now nest at) }
     requires part_ends { PartEnds text.now ends.now }
     ensures { tested result left.new mark.new store.now

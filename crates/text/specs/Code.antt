@@ -1,9 +1,9 @@
 -- What the code's answer of a call on a text says: document 01's number and place, or the three numbers.
-use Rattle.base.specs.Answers.{Answer, gives, refused}
+use Rattle.std.specs.Prelude.{Result}
+use Rattle.base.specs.Answers.{Answer}
+use Rattle.base.specs.Code.{answer}
+use Rattle.base.specs.declared.Refusal.{Refusal}
 use Rattle.text.specs.declared.Sizes.{Sizes}
-use Rattle.text.specs.declared.Reading.{Reading}
-use Rattle.text.specs.declared.Reading.TheVariants.{Refused, Accepted}
 
-abbrev pub sizes_answer : Reading → Answer Sizes
-sizes_answer (Refused r) = refused r.number r.place
-sizes_answer (Accepted z) = gives z
+abbrev pub sizes_answer : Result Sizes Refusal → Answer Sizes
+sizes_answer sizes = answer (λ z. z) sizes

@@ -2,18 +2,18 @@
 // the position of the construct's first byte and the nesting left for the parts.
 #![tactic(auto)]
 
-ghost use Rattle.std.specs.Prelude.{◌<◌, length};
+ghost use Rattle.std.specs.Prelude.{◌<◌, ◌≤◌, length};
 ghost use Rattle.text.specs.Reading.{command, assignment, sequence, choice, loop};
-ghost use Rattle.text_conditions.specs.Code.{Answered, Given};
+ghost use Rattle.text_conditions.specs.Code.{Answered};
 ghost use Rattle.text_commands.specs.Code.{commands, command_parts};
 
-use base::VARIABLES;
+use base::{Reason, VARIABLES};
 use text_conditions::{PartReading, condition, expression, joined, variable};
 use text_shape::{ASSIGN, IF, SEQUENCE, SKIP, WHILE};
 
 // Assign: a variable and an expression.
 fn assignment(text: &[u8], at: usize, nest: usize, named: &mut [u8; VARIABLES]) -> PartReading
-    requires given { Given text.now named.old }
+    requires short { length text.now ≤ 4096 }
     requires at_in_bounds { at < length text.now }
     ensures { Answered commands (command_parts text.now nest assignment at) result
         named.old named.new }
@@ -28,7 +28,7 @@ fn assignment(text: &[u8], at: usize, nest: usize, named: &mut [u8; VARIABLES]) 
 // Sequence: two commands.
 #[cycle(choice_command_repetition_sequence)]
 fn sequence(text: &[u8], at: usize, nest: usize, named: &mut [u8; VARIABLES]) -> PartReading
-    requires given { Given text.now named.old }
+    requires short { length text.now ≤ 4096 }
     requires at_in_bounds { at < length text.now }
     ensures { Answered commands (command_parts text.now nest sequence at) result
         named.old named.new }
@@ -43,7 +43,7 @@ fn sequence(text: &[u8], at: usize, nest: usize, named: &mut [u8; VARIABLES]) ->
 // IF: a condition, two commands, and the record that passes the second.
 #[cycle(choice_command_repetition_sequence)]
 fn choice(text: &[u8], at: usize, nest: usize, named: &mut [u8; VARIABLES]) -> PartReading
-    requires given { Given text.now named.old }
+    requires short { length text.now ≤ 4096 }
     requires at_in_bounds { at < length text.now }
     ensures { Answered commands (command_parts text.now nest choice at) result
         named.old named.new }
@@ -63,7 +63,7 @@ fn choice(text: &[u8], at: usize, nest: usize, named: &mut [u8; VARIABLES]) -> P
 // WHILE: a condition, a command, and the record that goes back.
 #[cycle(choice_command_repetition_sequence)]
 fn repetition(text: &[u8], at: usize, nest: usize, named: &mut [u8; VARIABLES]) -> PartReading
-    requires given { Given text.now named.old }
+    requires short { length text.now ≤ 4096 }
     requires at_in_bounds { at < length text.now }
     ensures { Answered commands (command_parts text.now nest loop at) result
         named.old named.new }
@@ -77,15 +77,15 @@ fn repetition(text: &[u8], at: usize, nest: usize, named: &mut [u8; VARIABLES]) 
 
 #[cycle(choice_command_repetition_sequence)]
 pub fn command(text: &[u8], at: usize, nest: usize, named: &mut [u8; VARIABLES]) -> PartReading
-    requires { Given text.now named.old }
+    requires { length text.now ≤ 4096 }
     ensures { Answered commands (command text.now nest at) result
         named.old named.new }
 {
     if text.len() <= at {
-        return PartReading::decline(1, text.len());
+        return PartReading::decline(Reason::CutOff, text.len());
     }
     if nest == 0 {
-        return PartReading::decline(4, at);
+        return PartReading::decline(Reason::TooDeep, at);
     }
     let byte = text[at];
     match byte {
@@ -98,6 +98,6 @@ pub fn command(text: &[u8], at: usize, nest: usize, named: &mut [u8; VARIABLES])
         SEQUENCE => sequence(text, at, nest - 1, named),
         IF => choice(text, at, nest - 1, named),
         WHILE => repetition(text, at, nest - 1, named),
-        _ => PartReading::decline(2, at),
+        _ => PartReading::decline(Reason::NoConstruct, at),
     }
 }

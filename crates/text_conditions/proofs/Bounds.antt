@@ -24,22 +24,22 @@ use Rattle.text_conditions.specs.declared.PartReading.TheVariants.{Read, Refused
 -- An answer's record count and depth bound are at most n
 unfoldable pub Small : ℕ → PartReading → Type 0
 Small n (Read k d next) = (k ≤ n) × (d ≤ n)
-Small n (Refused number place) = Unit {0}
+Small n (Refused reason place) = Unit {0}
 
 -- There is room for the sums of two small answers,
 pub room : (n l : ℕ) (r r' : PartReading) (more lift : ℕ) → n + l + more + lift < 2 ^ 16 → Small n r → Small l r'
     → Room r r' more lift
 unfolding Small Room
 room n l (Read k d i) (Read k' d' j) more lift h x y = (omega arith, omega arith)
-room n l (Read k d i) (Refused number place) more lift h x y = tt
-room n l (Refused number place) r' more lift h x y = tt
+room n l (Read k d i) (Refused reason place) more lift h x y = tt
+room n l (Refused reason place) r' more lift h x y = tt
 
 -- and two small answers are a small answer together.
 pub small_together : (n l : ℕ) (r r' : PartReading) → Small n r → Small l r' → Small (n + l) (together r r' 0 0)
 unfolding Small together
 small_together n l (Read k d i) (Read k' d' j) x y = (omega arith, omega arith)
-small_together n l (Read k d i) (Refused number place) x y = tt
-small_together n l (Refused number place) r' x y = tt
+small_together n l (Read k d i) (Refused reason place) x y = tt
+small_together n l (Refused reason place) r' x y = tt
 
 -- ---- The depth bound is at most the record count
 
@@ -79,7 +79,7 @@ module _ (text : List ℕ) where
     small_part K S records depth nest i (goes {a = a} {j = j} s) r m m' h =
         let whole : length (K.bytes a) ≤ length text = no_more (K.bytes a) i j s.holds in
         rw h.is (omega (arith, records a), omega (arith, records a, depth a))
-    small_part K S records depth nest i (ends k p _) r m m' h = rw h tt
+    small_part K S records depth nest i (ends k p _) r m m' h = rw h.is tt
 
     -- so expressions and conditions have.
     pub expression_small : (nest i : ℕ) (r : PartReading) (m m' : List ℕ)
@@ -99,4 +99,4 @@ pub variable_small : (o : Outcome ℕ Refusal ℕ) (r : PartReading) (m m' : Lis
     → Small 4096 r
 unfolding Small Answered
 variable_small (ok v i) r m m' h = rw h.is (omega arith, omega arith)
-variable_small (ended (refusal k p)) r m m' h = rw h tt
+variable_small (ended (refusal k p)) r m m' h = rw h.is tt

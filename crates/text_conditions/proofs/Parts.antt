@@ -13,12 +13,14 @@ use borrow.Author.Tests.{eqb-true, eqb-false}
 use Rattle.std.specs.Prelude.{if◌then◌else◌}
 use Rattle.base.specs.Acts.{Outcome, ok, ended, then', ◌>>=◌, ◌>>◌, give}
 use Rattle.base.specs.Answers.{Refusal, refusal}
+use Rattle.base.specs.Code.{number_of}
+use Rattle.base.specs.declared.Reason.{Reason}
 use Rattle.text.specs.Syntax.{Width, Constant}
 use Rattle.text.specs.Reading.{Reader, expression_byte, pass, number, expression_of}
 use Rattle.text.specs.Sizes.{expression_records, expression_depth, expression_names}
 use Rattle.text_shape.specs.Shape.{width_of}
 use Rattle.text_shape.proofs.Constants.{Begins, is_constant}
-use Rattle.text_conditions.specs.Code.{Sized, expressions, numbers, Noted, ReadAs, Answered, Given}
+use Rattle.text_conditions.specs.Code.{Sized, expressions, numbers, Noted, ReadAs, Answered}
 use Rattle.text_conditions.specs.Code.{expression_parts, together}
 use Rattle.text_conditions.specs.declared.PartReading.{PartReading}
 use Rattle.text_conditions.specs.declared.PartReading.TheVariants.{Read, Refused}
@@ -53,10 +55,10 @@ noted_both {f} {g} {h} {m} {m'} {m''} x y e = record {
 
 -- ---- Answers that the code makes itself
 
-pub declines : {A : Type 0} (K : Sized A) {k p : ℕ} {r : PartReading} (m m' : List ℕ) → r ≡ Refused k p
-    → Answered K (ended (refusal k p)) r m m'
+pub declines : {A : Type 0} (K : Sized A) {reason : Reason} {p : ℕ} {r : PartReading} (m m' : List ℕ)
+    → r ≡ Refused reason p → Answered K (ended (refusal (number_of reason) p)) r m m'
 unfolding Answered
-declines K m m' e = e
+declines K m m' e = record { reason = _; is = e; numbered = refl }
 
 pub tells : {A : Type 0} (K : Sized A) (a : A) (n : ℕ) (m m' : List ℕ) → Noted (K.names a) m m'
     → Answered K (ok a n) (Read (K.records a) (K.depth a) n) m m'
@@ -78,17 +80,7 @@ got K (ok a i) {n = n} h e =
     let is = h.is in
     let same : i ≡ n = cc in
     record { part = a; read = ap (ok a) same; read_as = record { is = cc; noted = h.noted } }
-got K (ended (refusal k p)) h e = absurd (let no : ◌≡◌ {A = ℕ} 0 1 = cc in omega arith)
-
--- There are as many notes then as before,
-pub as_many : {A : Type 0} (K : Sized A) (o : Outcome ℕ Refusal A) {r : PartReading} (m m' : List ℕ) {n k d : ℕ}
-    → Answered K o r m m' → r ≡ Read k d n → length m' ≡ length m
-as_many K o m m' h e = (got K o h e).read_as.noted.kept
-
--- so the next part is given what this one was.
-pub next_given : {A : Type 0} (K : Sized A) (o : Outcome ℕ Refusal A) {text : List ℕ} {r : PartReading} {m m' : List ℕ}
-    {n k d : ℕ} → Given text m → Answered K o r m m' → r ≡ Read k d n → Given text m'
-next_given K o {m = m} {m' = m'} g h e = record { short = g.short; full = as_many K o m m' h e ∙ g.full }
+got K (ended (refusal k p)) h e = absurd (let is = h.is in let no : ◌≡◌ {A = ℕ} 0 1 = cc in omega arith)
 
 -- The sizes of b together with those of a part a before it, as the code joins them
 abbrev pub after : {A B : Type 0} → Sized A → A → Sized B → ℕ → ℕ → Sized B
@@ -106,7 +98,8 @@ joins : {A B : Type 0} (K : Sized A) (Q : Sized B) (a : A) (o : Outcome ℕ Refu
 unfolding Answered together
 joins K Q a (ok b j) r' m'' more lift x y =
     record { is = rw (x.is, y.is); noted = noted_both x.noted y.noted (λ w. refl) }
-joins K Q a (ended (refusal k p)) r' m'' more lift x y = rw (x.is, y)
+joins K Q a (ended (refusal k p)) r' m'' more lift x y =
+    record { reason = y.reason; is = rw (x.is, y.is) refl; numbered = y.numbered }
 
 -- A construct f a has the sizes of a
 pub record Alike {A C : Type 0} (K : Sized A) (W : Sized C) (f : A → C) : Type 0 where
@@ -126,7 +119,8 @@ makes K W f (ended (refusal k p)) r m m' s h = h
 
 -- A part that is refused is the construct's refusal.
 ends : {A C : Type 0} (K : Sized A) (W : Sized C) (o : Outcome ℕ Refusal A) (f : A → Reader C) {r : PartReading}
-    (m m' l l' : List ℕ) {k p : ℕ} → Answered K o r m m' → r ≡ Refused k p → Answered W (then' o f) r l l'
+    (m m' l l' : List ℕ) {reason : Reason} {p : ℕ} → Answered K o r m m' → r ≡ Refused reason p
+    → Answered W (then' o f) r l l'
 unfolding Answered then'
 ends K W (ok a i) f m m' l l' h e = absurd (let is = h.is in let no : ◌≡◌ {A = ℕ} 0 1 = cc in omega arith)
 ends K W (ended (refusal k p)) f m m' l l' h e = h
@@ -173,15 +167,15 @@ module _ (text : List ℕ) {C : Type 0} (W : Sized C) where
 
   -- The first part is refused,
   pub first_ends : {A : Type 0} (K : Sized A) (x : Reader A) (f : A → Reader C) (i : ℕ) {r : PartReading}
-      (m m' l l' : List ℕ) {k p : ℕ} → Answered K (x (i + 1)) r m m' → r ≡ Refused k p
+      (m m' l l' : List ℕ) {reason : Reason} {p : ℕ} → Answered K (x (i + 1)) r m m' → r ≡ Refused reason p
       → Answered W ((do pass text 1; a ← x; f a) i) r l l'
   unfolding pass then'
   first_ends K x f i m m' l l' h e = ends K W (x (i + 1)) f m m' l l' h e
 
   -- or the second.
   pub second_ends : {A B : Type 0} (K : Sized A) (Q : Sized B) (x : Reader A) (y : Reader B) (f : A → B → Reader C)
-      (i : ℕ) {r r' : PartReading} (m m' m'' l : List ℕ) {n k d k' p : ℕ}
-      → Answered K (x (i + 1)) r m m' → r ≡ Read k d n → Answered Q (y n) r' m' m'' → r' ≡ Refused k' p
+      (i : ℕ) {r r' : PartReading} (m m' m'' l : List ℕ) {n k d p : ℕ} {reason : Reason}
+      → Answered K (x (i + 1)) r m m' → r ≡ Read k d n → Answered Q (y n) r' m' m'' → r' ≡ Refused reason p
       → Answered W ((do pass text 1; a ← x; b ← y; f a b) i) r' m l
   unfolding pass then'
   second_ends K Q x y f i m m' m'' l {n} h e h' e' =

@@ -1,9 +1,11 @@
 -- What an answer of the code says of a part of a text.
-use Rattle.std.specs.Prelude.{◌≡◌, ℕ, ◌+◌, ◌<◌, ◌≤◌, max, ◌^◌, Bool, false, List, eqb, ℤ, length, get_or, if◌then◌else◌}
+use Rattle.std.specs.Prelude.{◌≡◌, ℕ, ◌+◌, ◌<◌, max, ◌^◌, Bool, false, List, eqb, ℤ, length, get_or, if◌then◌else◌}
 use Rattle.std.specs.Bool.{beq}
 use Rattle.base.specs.Acts.{Outcome, ok, ended}
 use Rattle.text.specs.Syntax.{Expression, Condition}
 use Rattle.base.specs.Answers.{Refusal, refusal}
+use Rattle.base.specs.Code.{number_of}
+use Rattle.base.specs.declared.Reason.{Reason}
 use Rattle.text.specs.Reading.{Reader, ExpressionByte, ConditionByte}
 use Rattle.text.specs.Reading.{expression_of, expression, condition_of, condition}
 use Rattle.text.specs.Sizes.{expression_records, condition_records, expression_depth, condition_depth}
@@ -47,16 +49,17 @@ pub record ReadAs (answer : PartReading) (next records depth : ℕ) (named : ℕ
   pub is : answer ≡ Read records depth next
   pub noted : Noted named before after
 
+-- An answer that a part was refused, with this number at this place
+pub record RefusedAs (answer : PartReading) (number place : ℕ) : Type 0 where
+  pub reason : Reason
+  pub is : answer ≡ Refused reason place
+  pub numbered : number_of reason ≡ number
+
 -- The code's answer to a reading. A refusal leaves the noted names free
 unfoldable pub Answered : {A : Type 0} → Sized A → Outcome ℕ Refusal A → PartReading → List ℕ → List ℕ → Type 0
 Answered size (ok a next) answer before after =
     ReadAs answer next (size.records a) (size.depth a) (size.names a) before after
-Answered size (ended (refusal number place)) answer before after = answer ≡ Refused number place
-
--- What reading a part is given: a text of at most 4,096 bytes, and a note for each of the 64 variables
-pub record Given (text notes : List ℕ) : Type 0 where
-  pub short : length text ≤ 4096
-  pub full : length notes ≡ 64
+Answered size (ended (refusal number place)) answer before after = RefusedAs answer number place
 
 -- A construct whose first byte is known, with the nesting left for its parts
 abbrev pub expression_parts : List ℕ → ℕ → ExpressionByte → Reader Expression
@@ -68,11 +71,11 @@ condition_parts text nest = condition_of text (expression text nest) (condition 
 -- Two parts as one, with `more` records besides, the second's depth raised by `lift`; a refusal stays a refusal
 unfoldable pub together : PartReading → PartReading → ℕ → ℕ → PartReading
 together (Read k d i) (Read l e j) more lift = Read (k + l + more) (max d (e + lift)) j
-together (Read k d i) (Refused number place) more lift = Refused number place
-together (Refused number place) second more lift = Refused number place
+together (Read k d i) (Refused reason place) more lift = Refused reason place
+together (Refused reason place) second more lift = Refused reason place
 
 -- its numbers are within 16 bits
 unfoldable pub Room : PartReading → PartReading → ℕ → ℕ → Type 0
 Room (Read k d i) (Read l e j) more lift = (k + l + more < 2 ^ 16) × (e + lift < 2 ^ 16)
-Room (Read k d i) (Refused number place) more lift = Unit {0}
-Room (Refused number place) second more lift = Unit {0}
+Room (Read k d i) (Refused reason place) more lift = Unit {0}
+Room (Refused reason place) second more lift = Unit {0}

@@ -1,23 +1,26 @@
-// Reading the bytes of an expression or of a condition.
+// Reading the bytes of an expression or of a condition. The text and the notes of its variables are passed side by
+// side: in one struct, each function would have to promise besides that the text stays as it was, and the functions of
+// commands, which are in a crate above, could not be its methods.
 #![tactic(auto)]
 
-ghost use Rattle.std.specs.Prelude.{◌≡◌, List, Bool, ℕ, ◌+◌, ◌<◌, max, length, get_or, if◌then◌else◌};
-ghost use Rattle.std.specs.Bool.{beq};
+ghost use Rattle.std.specs.Prelude.{◌≡◌, List, Bool, ℕ, ◌+◌, ◌<◌, ◌≤◌, length, get_or};
 ghost use Rattle.text.specs.Reading.{expression_byte, number, operand, expression, condition};
 ghost use Rattle.text.specs.Reading.{plus, negation, conjunction, comparison};
 ghost use Rattle.text_shape.specs.Shape.{width_of};
 ghost use Rattle.text_conditions.specs.Code.{Answered, expressions, conditions, numbers, variables, values};
-ghost use Rattle.text_conditions.specs.Code.{Given, expression_parts, condition_parts, together, Room};
+ghost use Rattle.text_conditions.specs.Code.{expression_parts, condition_parts, together, Room};
 ghost use Rattle.text_conditions.specs.declared.PartReading.TheVariants.{Refused};
 
-use base::{LAST_VARIABLE, VARIABLES};
+use base::{LAST_VARIABLE, Reason, VARIABLES};
 use text_shape::{AND, BC, CONSTANT, LESS, NOT, ONE_BYTE_CONSTANT, PLUS, VARIABLE, constant_width};
 
-// What reading a part comes to: a refusal; or its record count, its depth bound and the position after it.
+// What reading a part comes to: why it is refused, and at which place; or its record count, its depth bound and the
+// position after it. (A `Result` of two structs takes three words in place of these two: measured, reading then takes
+// half as long again.)
 #[derive(Clone, Copy)]
 pub enum PartReading {
     Refused {
-        number: u8,
+        reason: Reason,
         place: usize,
     },
     Read {
@@ -28,20 +31,14 @@ pub enum PartReading {
 }
 
 impl PartReading {
-    pub fn decline(number: u8, place: usize) -> Self
-        ensures { result ≡ Refused number place }
+    pub fn decline(reason: Reason, place: usize) -> Self
+        ensures { result ≡ Refused reason place }
     {
-        PartReading::Refused { number, place }
+        PartReading::Refused { reason, place }
     }
 }
 
 // ---- Two parts in a row
-
-fn larger(x: u16, y: u16) -> u16
-    ensures { result ≡ max x y }
-{
-    if x <= y { y } else { x }
-}
 
 // Two parts as one, with `more` records besides; the second's depth is raised by `lift`.
 pub fn joined(first: PartReading, second: PartReading, more: u16, lift: u16) -> PartReading
@@ -61,12 +58,13 @@ pub fn joined(first: PartReading, second: PartReading, more: u16, lift: u16) -> 
     };
     PartReading::Read {
         records: records + others + more,
-        depth: larger(depth, other + lift),
+        depth: depth.max(other + lift),
         next,
     }
 }
 
-// ---- Operands. Variables that are named are noted, by 1, in `named`, a byte for each variable.
+// ---- Operands. Variables that are named are noted, by 1, in `named`, a byte for each variable. (A `bool` for each
+// would ask more of callers, whose bytes may be any.)
 
 // The constant at a position: its operand's bytes are there.
 fn constant(text: &[u8], at: usize) -> PartReading
@@ -76,7 +74,7 @@ fn constant(text: &[u8], at: usize) -> PartReading
 {
     let width = constant_width(text[at]);
     if text.len() - at <= width {
-        return PartReading::decline(1, text.len());
+        return PartReading::decline(Reason::CutOff, text.len());
     }
     PartReading::Read {
         records: 1,
@@ -87,18 +85,17 @@ fn constant(text: &[u8], at: usize) -> PartReading
 
 // A variable's byte.
 pub fn variable(text: &[u8], at: usize, named: &mut [u8; VARIABLES]) -> PartReading
-    requires { length named.old ≡ 64 }
     ensures { Answered variables (operand text.now 63 at) result
         named.old named.new }
 {
     if text.len() <= at {
-        return PartReading::decline(1, text.len());
+        return PartReading::decline(Reason::CutOff, text.len());
     }
     let v = text[at];
     if LAST_VARIABLE < v {
-        return PartReading::decline(3, at);
+        return PartReading::decline(Reason::NoOperand, at);
     }
-    named[v as usize] = 1;
+    named[usize::from(v)] = 1;
     PartReading::Read {
         records: 1,
         depth: 1,
@@ -106,30 +103,19 @@ pub fn variable(text: &[u8], at: usize, named: &mut [u8; VARIABLES]) -> PartRead
     }
 }
 
-// How many records Bc gives: one if its value equals the flag.
-fn value_records(value: bool, flag: bool) -> u16
-    ensures { result ≡ (if beq value flag then 1 else 0) }
-{
-    if value {
-        if flag { 1 } else { 0 }
-    } else {
-        if flag { 0 } else { 1 }
-    }
-}
-
-// Bc's byte, under a flag.
+// Bc's byte, under a flag: one record if its value equals the flag.
 fn value(text: &[u8], at: usize, flag: bool) -> PartReading
     ensures { (m : List ℕ) → Answered (values flag) (operand text.now 1 at) result m m }
 {
     if text.len() <= at {
-        return PartReading::decline(1, text.len());
+        return PartReading::decline(Reason::CutOff, text.len());
     }
     let v = text[at];
     if 1 < v {
-        return PartReading::decline(3, at);
+        return PartReading::decline(Reason::NoOperand, at);
     }
     PartReading::Read {
-        records: value_records(v == 1, flag),
+        records: u16::from((v == 1) == flag),
         depth: 0,
         next: at + 1,
     }
@@ -141,7 +127,7 @@ fn value(text: &[u8], at: usize, flag: bool) -> PartReading
 // The two expressions of a Plus or a Less.
 #[cycle(expression_two_expressions)]
 fn two_expressions(text: &[u8], at: usize, nest: usize, named: &mut [u8; VARIABLES]) -> PartReading
-    requires given { Given text.now named.old }
+    requires short { length text.now ≤ 4096 }
     requires at_in_bounds { at < length text.now }
     ensures as_plus { Answered expressions (expression_parts text.now nest plus at) result
         named.old named.new }
@@ -167,25 +153,25 @@ fn one_byte_constant(text: &[u8], at: usize) -> PartReading
 {
     let byte = text[at];
     if byte < CONSTANT {
-        return PartReading::decline(2, at);
+        return PartReading::decline(Reason::NoConstruct, at);
     }
     if ONE_BYTE_CONSTANT < byte {
-        return PartReading::decline(2, at);
+        return PartReading::decline(Reason::NoConstruct, at);
     }
     constant(text, at)
 }
 
 #[cycle(expression_two_expressions)]
 pub fn expression(text: &[u8], at: usize, nest: usize, named: &mut [u8; VARIABLES]) -> PartReading
-    requires { Given text.now named.old }
+    requires { length text.now ≤ 4096 }
     ensures { Answered expressions (expression text.now nest at) result
         named.old named.new }
 {
     if text.len() <= at {
-        return PartReading::decline(1, text.len());
+        return PartReading::decline(Reason::CutOff, text.len());
     }
     if nest == 0 {
-        return PartReading::decline(4, at);
+        return PartReading::decline(Reason::TooDeep, at);
     }
     let byte = text[at];
     match byte {
@@ -207,7 +193,7 @@ fn negation(
     flag: bool,
     named: &mut [u8; VARIABLES],
 ) -> PartReading
-    requires given { Given text.now named.old }
+    requires short { length text.now ≤ 4096 }
     requires at_in_bounds { at < length text.now }
     ensures { Answered (conditions flag) (condition_parts text.now nest negation at) result
         named.old named.new }
@@ -224,7 +210,7 @@ fn conjunction(
     flag: bool,
     named: &mut [u8; VARIABLES],
 ) -> PartReading
-    requires given { Given text.now named.old }
+    requires short { length text.now ≤ 4096 }
     requires at_in_bounds { at < length text.now }
     ensures { Answered (conditions flag) (condition_parts text.now nest conjunction at) result
         named.old named.new }
@@ -244,15 +230,15 @@ pub fn condition(
     flag: bool,
     named: &mut [u8; VARIABLES],
 ) -> PartReading
-    requires { Given text.now named.old }
+    requires { length text.now ≤ 4096 }
     ensures { Answered (conditions flag) (condition text.now nest at) result
         named.old named.new }
 {
     if text.len() <= at {
-        return PartReading::decline(1, text.len());
+        return PartReading::decline(Reason::CutOff, text.len());
     }
     if nest == 0 {
-        return PartReading::decline(4, at);
+        return PartReading::decline(Reason::TooDeep, at);
     }
     let byte = text[at];
     match byte {
@@ -260,6 +246,6 @@ pub fn condition(
         NOT => negation(text, at, nest - 1, flag, named),
         AND => conjunction(text, at, nest - 1, flag, named),
         LESS => two_expressions(text, at, nest - 1, named),
-        _ => PartReading::decline(2, at),
+        _ => PartReading::decline(Reason::NoConstruct, at),
     }
 }

@@ -1,16 +1,40 @@
 -- A cache of ends stays right when something is noted in it that is so.
-use mathlib.Core.Path.{◌≡◌, refl, sym}
+use mathlib.Core.Path.{◌≡◌, refl, sym, subst}
 use Prim.Native.Nat.{ℕ, ◌<◌, ◌≤◌}
+use native.Mathlib.Omega.{arith}
 use mathlib.Core.Bool.{Bool, true, false}
 use mathlib.Core.List.{List}
-use lib.Dec.{ltb}
-use lib.ListN.{length, get_or, set, length-set}
-use lib.Seq.{set_out, get_or-set_other}
-use borrow.Author.Tests.{ltb-true, ltb-false, lt-ltb, le-ltb}
-use Rattle.std.specs.Prelude.{if◌then◌else◌}
+use lib.Dec.{eqb, ltb}
+use lib.ListN.{length, get_or, set}
+use lib.Seq.{set_out}
+use borrow.Author.Tests.{eqb-false, ltb-true, ltb-false, lt-ltb, le-ltb}
+use Rattle.std.specs.Prelude.{Option, None, Some, IfSome, if◌then◌else◌}
 use Rattle.text_shape.specs.Caches.{Right}
 use Rattle.text_shape.proofs.Caching.{stays_set}
-use Rattle.text_ends.specs.Ends.{noted}
+use Rattle.text_ends.specs.Ends.{known, noted}
+
+-- ---- What an entry says
+
+pub says : (entry r : ℕ) → known entry ≡ Some r → (entry ≡ r) × (entry ≡ 0 → ⊥)
+unfolding known
+says entry r e = by (eqb entry 0) refl e
+  where
+    by : (t : Bool) → eqb entry 0 ≡ t → (if t then None else Some entry) ≡ Some r → (entry ≡ r) × (entry ≡ 0 → ⊥)
+    by true s e = absurd (let no : ◌≡◌ {A = ℕ} 0 1 = cc in omega arith)
+    by false s e = (cc, eqb-false _ 0 s)
+
+-- what a cache knows at a position is so,
+pub is_so : {so : ℕ → ℕ → Type 0} {cache : List ℕ} → Right so cache → {i r : ℕ} → known (get_or cache i 0) ≡ Some r
+    → so i r
+is_so {so} {cache} right {i} {r} e =
+    let (same, some) = says (get_or cache i 0) r e in
+    subst (so i) same (right.right i some)
+
+-- and so is what a look-up gives.
+pub if_known : (o : Option ℕ) (entry : ℕ) {P : ℕ → Type 0} → o ≡ known entry
+    → ((r : ℕ) → known entry ≡ Some r → P r) → IfSome o P
+if_known None entry e h = tt
+if_known (Some r) entry e h = h r (sym e)
 
 -- ---- What is noted, by the room for it
 
@@ -31,33 +55,12 @@ module _ (cache : List ℕ) (i value : ℕ) where
       by true = set_out cache i value h
       by false = refl
 
-  -- it is as long, and the same elsewhere
-  pub length_noted : length (noted cache i value) ≡ length cache
-  unfolding noted
-  length_noted = by (ltb value 0x10000)
-    where
-      by : (t : Bool) → length (if t then set cache i value else cache) ≡ length cache
-      by true = length-set cache i value
-      by false = refl
-
-  pub noted_other : (i ≡ 0 → ⊥) → get_or (noted cache i value) 0 0 ≡ get_or cache 0 0
-  unfolding noted
-  noted_other n = by (ltb value 0x10000)
-    where
-      by : (t : Bool) → get_or (if t then set cache i value else cache) 0 0 ≡ get_or cache 0 0
-      by true = get_or-set_other cache i 0 value 0 (λ e. n (sym e))
-      by false = refl
-
 -- ---- It stays right
 
-module _ {so : ℕ → ℕ → Type 0} {cache : List ℕ} (r : Right so cache) (i value : ℕ) where
-  -- 0 says nothing, so it is right anywhere
-  pub stays_if : ((value ≡ 0 → ⊥) → so i value) → Right so (noted cache i value)
-  stays_if h = by (ltb value 0x10000) refl
-    where
-      by : (s : Bool) → ltb value 0x10000 ≡ s → Right so (noted cache i value)
-      by true s = rw (noted_in cache i value (ltb-true _ _ s)) (stays_set r i value h)
-      by false s = rw (noted_large cache i value (ltb-false _ _ s)) r
-
-  pub stays : so i value → Right so (noted cache i value)
-  stays h = stays_if (λ n. h)
+pub stays : {so : ℕ → ℕ → Type 0} {cache : List ℕ} → Right so cache → (i value : ℕ) → so i value
+    → Right so (noted cache i value)
+stays {so} {cache} r i value h = by (ltb value 0x10000) refl
+  where
+    by : (s : Bool) → ltb value 0x10000 ≡ s → Right so (noted cache i value)
+    by true s = rw (noted_in cache i value (ltb-true _ _ s)) (stays_set r i value (λ n. h))
+    by false s = rw (noted_large cache i value (ltb-false _ _ s)) r

@@ -1,4 +1,4 @@
--- A byte in a text, from a position on: how often it stands there, and where first. One byte at a time.
+-- A byte in a text: how often it stands there from a position on, one byte at a time; and where first.
 use mathlib.Core.Path.{◌≡◌, refl, ap, ◌∙◌}
 use Prim.Native.Nat.{ℕ, suc, ◌+◌, ◌<◌, ◌≤◌}
 use native.Mathlib.Numerals.{add-one}
@@ -13,23 +13,6 @@ use Rattle.std.specs.Prelude.{if◌then◌else◌}
 use Rattle.text_ends.specs.Ends.{times, first}
 
 module _ (b : ℕ) (text : List ℕ) (i : ℕ) where
-  here : i < length text → first b (drop i text) ≡
-      (if eqb (get_or text i 0) b then 0 else suc (first b (drop (i + 1) text)))
-  unfolding first
-  here h = rw (add-one i, drop-cons text i 0)
-
-  pub found_here : i < length text → get_or text i 0 ≡ b → first b (drop i text) ≡ 0
-  found_here h e = here h ∙ simp (eq-eqb (get_or text i 0) b e)
-
-  pub found_later : i < length text → (get_or text i 0 ≡ b → ⊥)
-      → first b (drop i text) ≡ suc (first b (drop (i + 1) text))
-  found_later h e = here h ∙ simp (ne_eqb (get_or text i 0) b e)
-
-  pub found_nowhere : length text ≤ i → first b (drop i text) ≡ 0
-  unfolding first
-  found_nowhere h = rw (drop_of_length-le text h)
-
-  -- how often
   this : i < length text
       → times b (drop i text) ≡ (if eqb (get_or text i 0) b then suc (times b (drop (i + 1) text)) else times b
       (drop (i + 1) text))

@@ -288,6 +288,23 @@ module _ {text : List ℕ} {start i n : ℕ} (p : Passing text start i n) (h : n
       let (a, z) = room w r in
       record { inside = omega arith; goes_on = record { end = p.end; from = p.from; here = r } }
 
+  -- SKIP's byte, Assign's, IF's and Not's
+  pub turn_skip : get_or text i 0 ≡ 0x00 → Turn text start i 1 (n - 1)
+  unfolding width due_after
+  turn_skip e = turn 0x00 e _ refl
+
+  pub turn_assign : get_or text i 0 ≡ 0x01 → Turn text start i 2 n
+  unfolding width due_after
+  turn_assign e = turn 0x01 e _ (omega arith)
+
+  pub turn_choice : get_or text i 0 ≡ 0x03 → Turn text start i 1 (n + 2)
+  unfolding width due_after
+  turn_choice e = turn 0x03 e _ (omega arith)
+
+  pub turn_not : get_or text i 0 ≡ 0x21 → Turn text start i 1 n
+  unfolding width due_after
+  turn_not e = turn 0x21 e _ (omega arith)
+
   -- a constant's byte: its own bytes, and no part
   pub turn_constant : Begins (get_or text i 0) → Turn text start i (1 + constant_width (get_or text i 0)) (n - 1)
   turn_constant b = rw (constant_wide b) at (turn (get_or text i 0) refl (n - 1) (constant_due b (n - 1)))
@@ -301,14 +318,9 @@ module _ {text : List ℕ} {start i n : ℕ} (p : Passing text start i n) (h : n
   -- a byte that is none of the others': one byte, and two parts
   pub turn_rest : (get_or text i 0 ≡ 0x00 → ⊥) → (get_or text i 0 ≡ 0x01 → ⊥) → (get_or text i 0 ≡ 0x03 → ⊥)
       → (Begins (get_or text i 0) → ⊥) → (get_or text i 0 ≡ 0x11 → ⊥) → (get_or text i 0 ≡ 0x20 → ⊥)
-      → (get_or text i 0 ≡ 0x21 → ⊥) → (due : ℕ) → suc (suc (n - 1)) ≡ due → Turn text start i 1 due
-  turn_rest n0 n1 n2 n3 n4 n5 n6 due f =
+      → (get_or text i 0 ≡ 0x21 → ⊥) → Turn text start i 1 (n + 1)
+  turn_rest n0 n1 n2 n3 n4 n5 n6 =
       let b = get_or text i 0 in
+      let two : suc (suc (n - 1)) ≡ n + 1 = omega arith in
       rw (pair_width b n0 n1 n2 n3 n4 n5 n6)
-      at (turn b refl due (pair_due b n0 n1 n2 n3 n4 n5 n6 (n - 1) ∙ f))
-
--- Where no part is due, this is the end of the part at the start.
-pub arrived : {text : List ℕ} {start i n : ℕ} → Passing text start i n → n ≡ 0 → Row text start 1 i
-arrived {text} {start} {i} p e =
-    let r : Row text i 0 p.end = rw e at p.here in
-    subst (Row text start 1) (sym (one_end text none r)) p.from
+      at (turn b refl (n + 1) (pair_due b n0 n1 n2 n3 n4 n5 n6 (n - 1) ∙ two))

@@ -1,5 +1,6 @@
 -- Where a part of a text ends, and a cache of that.
-use Rattle.std.specs.Prelude.{ℕ, suc, ◌+◌, ◌≤◌, List, [], ◌∷◌, eqb, ltb, length, get_or, set, if◌then◌else◌}
+use Rattle.std.specs.Prelude.{ℕ, suc, ◌+◌, ◌≤◌, List, [], ◌∷◌, eqb, ltb, length, get_or, set, Option, Some, None}
+use Rattle.std.specs.Prelude.{if◌then◌else◌}
 use Rattle.text_shape.specs.Shape.{begins_constant, constant_width}
 use Rattle.text_shape.specs.Caches.{Right}
 
@@ -31,6 +32,10 @@ pub data Row (text : List ℕ) : ℕ → ℕ → ℕ → Type 0 where
       → Row text (i + width (get_or text i 0)) (due_after (get_or text i 0) n) j → Row text i (suc n) j
 
 -- ---- A cache of part ends
+
+-- What an entry of a cache says: a position, and 0 says nothing
+unfoldable pub known : ℕ → Option ℕ
+known entry = if eqb entry 0 then None else Some entry
 
 -- The cache with a value at a position, where it has that position and the value has 16 bits
 unfoldable pub noted : List ℕ → ℕ → ℕ → List ℕ

@@ -1,43 +1,36 @@
 // Where the parts of a text end: found construct by construct, or looked up in a cache of what was worked out before.
 #![tactic(auto)]
 
-ghost use Rattle.std.specs.Prelude.{◌≡◌, ℕ, ◌≤◌, ◌<◌, length, get_or};
-ghost use Rattle.text_ends.specs.Ends.{Row, noted, PartEnds, times, first};
+ghost use Rattle.std.specs.Prelude.{◌≡◌, ℕ, ◌≤◌, ◌<◌, length, get_or, IfSome};
+ghost use Rattle.text_ends.specs.Ends.{Row, known, noted, PartEnds, times, first};
 
 use text_shape::{
     ASSIGN, BC, CONSTANT, IF, NOT, ONE_BYTE_CONSTANT, SKIP, VARIABLE, WHILE, constant_width,
 };
 
-// ---- A cache of part ends
+// ---- A cache of part ends. An entry of 0 says nothing: as an `Option` it would take twice the room, and each run
+// clears its cache first.
 
 // Texts of up to so many bytes have a cache of this length, longer ones one of `text::LONGEST`: each call clears its
 // own.
 pub const SHORT_TEXT: usize = 256;
 
-fn wide(value: u16) -> usize
-    ensures { result ≡ value }
+// What a cache knows at a position.
+pub fn recall(cache: &[u16], at: usize) -> Option<usize>
+    ensures { result ≡ known (get_or cache.now at 0) }
 {
-    value as usize
-}
-
-// What a cache knows at a position, 0 for nothing.
-pub fn recall(cache: &[u16], at: usize) -> usize
-    ensures { result ≡ get_or cache.now at 0 }
-{
-    if at < cache.len() {
-        return wide(cache[at]);
-    }
-    0
+    let end = *cache.get(at)?;
+    (end != 0).then_some(usize::from(end))
 }
 
 // Notes a value at a position, where there is room for it.
 pub fn remember(cache: &mut [u16], at: usize, value: usize)
     ensures { cache.new ≡ noted cache.old at value }
 {
-    if at < cache.len() {
-        if value < 0x10000 {
-            cache[at] = value as u16;
-        }
+    if at < cache.len()
+        && let Ok(value) = u16::try_from(value)
+    {
+        cache[at] = value;
     }
 }
 
@@ -88,41 +81,35 @@ pub fn part_end(text: &[u8], start: usize, ends: &[u16]) -> usize
     requires part_ends { PartEnds text.now ends.now }
     ensures { Row text.now start 1 result }
 {
-    let known = recall(ends, start);
-    if known != 0 {
-        return known;
+    match recall(ends, start) {
+        Some(end) => end,
+        None => scan_end(text, start),
     }
-    scan_end(text, start)
 }
 
-// A position, if it is inside the text or at its end, else 0.
-fn inside(text: &[u8], at: usize) -> usize
-    ensures { (result ≡ 0 → ⊥) → (result ≡ at) × (at ≤ length text.now) }
+// A position, if it is inside the text or at its end.
+fn inside(text: &[u8], at: usize) -> Option<usize>
+    ensures { IfSome result (λ end. (end ≡ at) × (at ≤ length text.now)) }
 {
-    if at <= text.len() {
-        return at;
-    }
-    0
+    (at <= text.len()).then_some(at)
 }
 
-// The position after the part at a position, by a cache of the ends of the parts behind it; 0 where it does not know
-// enough.
-fn end_at(text: &[u8], at: usize, ends: &[u16]) -> usize
+// The position after the part at a position, by a cache of the ends of the parts behind it, if that knows enough.
+fn end_at(text: &[u8], at: usize, ends: &[u16]) -> Option<usize>
     requires at_in_bounds { at < length text.now }
     requires part_ends { PartEnds text.now ends.now }
-    requires none_noted { get_or ends.now 0 0 ≡ 0 }
-    ensures { (result ≡ 0 → ⊥) → Row text.now at 1 result }
+    ensures { IfSome result (Row text.now at 1) }
 {
     let op = text[at];
     match op {
-        SKIP => at + 1,
+        SKIP => Some(at + 1),
         ASSIGN => recall(ends, at + 2),
-        IF => recall(ends, recall(ends, recall(ends, at + 1))),
+        IF => recall(ends, recall(ends, recall(ends, at + 1)?)?),
         CONSTANT | ONE_BYTE_CONSTANT => inside(text, at + 1 + constant_width(op)),
         VARIABLE | BC => inside(text, at + 2),
         NOT => recall(ends, at + 1),
         // those of two parts
-        _ => recall(ends, recall(ends, at + 1)),
+        _ => recall(ends, recall(ends, at + 1)?),
     }
 }
 
@@ -130,28 +117,25 @@ fn end_at(text: &[u8], at: usize, ends: &[u16]) -> usize
 // for the first of one too: nobody looks those up.)
 pub fn note_ends(text: &[u8], from: usize, ends: &mut [u16])
     requires part_ends { PartEnds text.now ends.old }
-    requires none_noted { get_or ends.old 0 0 ≡ 0 }
     ensures { PartEnds text.now ends.new }
 {
-    let mut at = text.len();
-    while from < at {
-        at -= 1;
-        let end = end_at(text, at, ends);
-        remember(ends, at, end);
+    for at in (from..text.len()).rev() {
+        if let Some(end) = end_at(text, at, ends) {
+            remember(ends, at, end);
+        }
     }
 }
 
-// How many bytes of a text are WHILE's. (It looks at all of them, several at a time as it is compiled.)
+// How many bytes of a text are WHILE's. (It looks at all of them, several at a time as it is compiled. A chain of
+// `filter` and `count` is compiled to look at one at a time, and takes half as long again.)
 fn loop_bytes(text: &[u8]) -> usize
     ensures { result ≡ times 0x04 text.now }
 {
     let mut found = 0;
-    let mut at = 0;
-    while at < text.len() {
-        if text[at] == WHILE {
+    for byte in text {
+        if *byte == WHILE {
             found += 1;
         }
-        at += 1;
     }
     found
 }
@@ -163,12 +147,7 @@ pub fn first_loop(text: &[u8]) -> usize
     if loop_bytes(text) == 0 {
         return text.len();
     }
-    let mut at = 0;
-    while at < text.len() {
-        if text[at] == WHILE {
-            return at;
-        }
-        at += 1;
-    }
-    at
+    text.iter()
+        .position(|byte| *byte == WHILE)
+        .unwrap_or(text.len())
 }

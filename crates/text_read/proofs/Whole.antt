@@ -11,6 +11,8 @@ use borrow.Author.Tests.{le-leb, lt-leb}
 use Rattle.std.specs.Prelude.{if◌then◌else◌}
 use Rattle.base.specs.Acts.{Outcome, ok, ended}
 use Rattle.base.specs.Answers.{gives, refused, and_then}
+use Rattle.base.specs.Code.{number_of}
+use Rattle.base.specs.declared.Reason.{Reason}
 use Rattle.text.specs.Syntax.{Command}
 use Rattle.base.specs.Answers.{Refusal, refusal}
 use Rattle.text.specs.Reading.{command, all_read, read_text}
@@ -47,10 +49,15 @@ module _ (text : List ℕ) where
   module _ (short : length text ≤ 4096) where
     -- The command is refused,
     pub call_refused : (o : Outcome ℕ Refusal Command) → command text 64 0 ≡ o → {r : PartReading} (m m' : List ℕ)
-        {k p : ℕ} → Answered commands o r m m' → r ≡ Refused k p → refused k p ≡ read_call text
+        {reason : Reason} {p : ℕ} → Answered commands o r m m' → r ≡ Refused reason p
+        → refused (number_of reason) p ≡ read_call text
     unfolding Answered read_call read_text all_read and_then
     call_refused (ok c i) q m m' h e = absurd (let is = h.is in let no : ◌≡◌ {A = ℕ} 0 1 = cc in omega arith)
-    call_refused (ended (refusal k p)) q m m' h e = rw (le-leb (length text) 4096 short, q) (cc)
+    call_refused (ended (refusal k i)) q m m' {reason} {p} h e =
+        let is = h.is in
+        let same : h.reason ≡ reason = cc in
+        let place : i ≡ p = cc in
+        rw (le-leb (length text) 4096 short, q, ← h.numbered, same, place)
 
     -- or it ends before the text does,
     pub call_left_over : (o : Outcome ℕ Refusal Command) → command text 64 0 ≡ o → {r : PartReading} (m m' : List ℕ)
@@ -60,7 +67,8 @@ module _ (text : List ℕ) where
         let is = h.is in
         let same : i ≡ n = cc in
         rw (le-leb (length text) 4096 short, q, same, lt-leb (length text) n l)
-    call_left_over (ended (refusal k p)) q m m' h e l = absurd (let no : ◌≡◌ {A = ℕ} 0 1 = cc in omega arith)
+    call_left_over (ended (refusal k p)) q m m' h e l =
+        absurd (let is = h.is in let no : ◌≡◌ {A = ℕ} 0 1 = cc in omega arith)
 
     -- or it is the whole text.
     pub call_accepted : (o : Outcome ℕ Refusal Command) → command text 64 0 ≡ o → {r : PartReading} (m : List ℕ)
@@ -82,4 +90,5 @@ module _ (text : List ℕ) where
           same_depth,
           same_cells,
         )
-    call_accepted (ended (refusal k p)) q m h e l = absurd (let no : ◌≡◌ {A = ℕ} 0 1 = cc in omega arith)
+    call_accepted (ended (refusal k p)) q m h e l =
+        absurd (let is = h.is in let no : ◌≡◌ {A = ℕ} 0 1 = cc in omega arith)

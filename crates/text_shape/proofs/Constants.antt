@@ -10,7 +10,7 @@ use native.Mathlib.Omega.{arith}
 use lib.ListN.{get_or}
 use borrow.Author.Tests.{ne_eqb}
 use Rattle.base.specs.Acts.{ok}
-use Rattle.text.specs.Syntax.{Width, four_bytes, one_byte, bytes_in, Expression, Constant}
+use Rattle.text.specs.Syntax.{four_bytes, one_byte, Expression, Constant}
 use Rattle.text.specs.Reading.{constant, expression_byte, expression}
 use Rattle.text.proofs.Heads as heads
 use Rattle.text.proofs.Opened as text_says
@@ -31,20 +31,6 @@ one_byte_width e = rw e
 pub four_byte_width : {b : ℕ} → (b ≡ 0x13 → ⊥) → width_of b ≡ four_bytes
 unfolding width_of
 four_byte_width {b} n = rw (ne_eqb b 0x13 n)
-
--- A width of one byte is known by its number.
-pub one_byte_is : (w : Width) → bytes_in w ≡ 1 → w ≡ one_byte
-one_byte_is four_bytes e = absurd (omega arith)
-one_byte_is one_byte e = refl
-
-pub four_bytes_is : (w : Width) → (bytes_in w ≡ 1 → ⊥) → w ≡ four_bytes
-four_bytes_is four_bytes n = refl
-four_bytes_is one_byte n = absurd (n refl)
-
--- A width is four bytes at most.
-pub narrow : (w : Width) → bytes_in w ≤ 4
-narrow four_bytes = omega arith
-narrow one_byte = omega arith
 
 pub is_constant : {b : ℕ} → Begins b → expression_byte b ≡ constant (width_of b)
 unfolding width_of

@@ -55,14 +55,9 @@ pub fn constant_at(text: &[u8], at: usize) -> Constant
     ensures { result ≡ constant_at text.now at }
 {
     let width = constant_width(text[at]);
-    if width == 1 {
-        return Constant {
-            value: word::byte_number(text[at + 1]),
-            width,
-        };
-    }
-    Constant {
-        value: word::number_at(text, at + 1),
-        width,
-    }
+    let value = match width {
+        1 => word::byte_number(text[at + 1]),
+        _ => word::number_at(text, at + 1),
+    };
+    Constant { value, width }
 }

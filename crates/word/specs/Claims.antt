@@ -6,7 +6,7 @@ use Rattle.std.proofs.Common.{SFits}
 use Rattle.word.specs.Sums.{least, greatest, fits, SumRule, stopping, holding, stopping_at, Extends, Steady}
 use Rattle.word.specs.Numbers.{number_of, number_at, bytes_of, byte_number, byte_of}
 use Rattle.word.specs.Targets.{target}
-use Rattle.word.specs.declared.Target.TheVariants.{To}
+use Rattle.std.specs.Prelude.{Some}
 
 -- ---- Sums
 
@@ -65,4 +65,4 @@ pub record SignedBytes : Type 0 where
 -- Profile C's two jumps, in code of 8 records: JMPGE 5 at position 2 leads to the end position, JMP −8 at position 7 to
 -- the first record.
 abbrev pub Jumps : Type 0
-Jumps = (target 2 (pos 5) 8 ≡ To 8) × (target 7 (negsuc 7) 8 ≡ To 0)
+Jumps = (target 2 (pos 5) 8 ≡ Some 8) × (target 7 (negsuc 7) 8 ≡ Some 0)

@@ -6,14 +6,15 @@ use Rattle.fitting_load.proofs.to_memory.Goals as goal
 pub loop-v-init : goal.loop-v-init
 loop-v-init c = filled_start c.args.table.now _ _ _ c.requires.entries
 
-pub loop-v-preserved-then-a-ne0 : goal.loop-v-preserved-then-a-ne0
-loop-v-preserved-then-a-ne0 c =
+pub loop-v-preserved-in-Some : goal.loop-v-preserved-in-Some
+loop-v-preserved-in-Some c =
+    let a = c.in-Some.ensures in
     filled_put c.loop-v.invariant c.loop-v-test.true c.requires.entries c.requires.variables
-    c.address_of-address.ensures.0 (search rules) c.if-a-ne0.true
+    a.0 (search rules) (λ none. omega (arith, a.1))
 
 pub loop-v-preserved : goal.loop-v-preserved
 loop-v-preserved c =
-    filled_past c.loop-v.invariant c.loop-v-test.true c.requires.entries c.requires.variables (omega arith)
+    filled_past c.loop-v.invariant c.loop-v-test.true c.requires.entries c.requires.variables c.in_default.ensures
 
 pub returns : goal.returns
 returns c = filled_all c.loop-v.invariant c.loop-v-test.false

@@ -4,6 +4,3 @@ use Rattle.fitting_load.proofs.to_memory.Given as goal
 
 abbrev pub invariant-loop-v : goal.invariant-loop-v
 invariant-loop-v l = Filled l.table l.store l.depth l.initial.memory l.memory l.v
-
-abbrev pub decreases-loop-v : goal.decreases-loop-v
-decreases-loop-v l = l.v
