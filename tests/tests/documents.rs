@@ -1,5 +1,6 @@
-//! What README.md and docs/ name is there: files of `specs/` and `proofs/`, the definitions in them, functions, calls
-//! and edits. A fact stands in one place, and no line is too wide to read.
+//! What README.md and docs/ name is there (docs/PORT.md and docs/DESIGN-PASS.md name what was, too): files of `specs/`
+//! and `proofs/`, the definitions in them, functions, calls and edits. A fact stands in one place, and no line is too
+//! wide to read.
 
 use std::collections::BTreeSet;
 

@@ -14,6 +14,7 @@ use machine_step::Machine;
 use record_test::Kind;
 
 // The tests of a call on assembly, in the document's order: refusals 9, 8, 10, 11. Gives the number of records.
+// (Machine code's are no twin: they refuse other numbers, in another order.)
 pub fn test(code: &[u8], store: &[i32], stack: &[i32]) -> Result<usize, Refusal>
     ensures { count_answer result
         ≡ and_then (assembly_tests code.now (assembly_of store.now stack.now))

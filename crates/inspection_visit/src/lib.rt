@@ -68,7 +68,8 @@ fn check_record(code: &[u8], last: usize, depth: usize, at: usize, height: usize
 }
 
 // The positions that are found, on lent arrays. A position that was found has a label, one more than its height; 0 is
-// no label. `order` lists the positions in the order in which they were found, and `found` is how many there are.
+// no label (an `Option` for each would take twice the room). `order` lists the positions in the order in which they
+// were found, and `found` is how many there are.
 #[derive(Drop)]
 pub struct Positions<'a> {
     pub labels: &'a mut [u8],

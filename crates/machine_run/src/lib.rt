@@ -37,16 +37,10 @@ pub fn test(code: &[u8], memory: &[i32], depth: u64, cells: u64) -> Result<usize
 fn state_fits(state: State, last: usize, depth: u64, budget: u32) -> bool
     ensures { result ≡ state_fits state last depth budget }
 {
-    if last < state.position {
-        return false;
-    }
-    if state.mark < state.size {
-        return false;
-    }
-    if depth < (state.mark as u64) {
-        return false;
-    }
-    u64::from(state.count) + u64::from(budget) <= Machine::GREATEST_COUNT
+    state.position <= last
+        && state.size <= state.mark
+        && state.mark as u64 <= depth
+        && u64::from(state.count) + u64::from(budget) <= Machine::GREATEST_COUNT
 }
 
 // The tests of a call from a state, in the document's order: refusals 9, 10, 11, 15. Gives the number of records.

@@ -1,5 +1,6 @@
 // The stack machine by value, one step of it and its run, over memory in either layout. A step gives the next machine,
-// or how the run halted.
+// or how the run halted. (What a step asks of a machine and of the slices, `Ready`, is no type's invariant: the slices
+// are lent beside the machine.)
 #![tactic(auto)]
 
 ghost use Rattle.std.specs.Prelude.{◌≡◌, List, ◌+◌, ◌<◌, ◌≤◌, ◌^◌, ℤ, length};

@@ -1,4 +1,5 @@
-// Bytes, words and numbers in ASCII, printed one after the other on a page, which is a lent buffer.
+// Bytes, words and numbers in ASCII, printed one after the other on a page, which is a lent buffer. (Not by `Display`:
+// a writer may fail, which these cannot, and says nothing of the room that is left.)
 #![tactic(auto)]
 
 ghost use Rattle.std.specs.Prelude.{[], ◌∷◌, ◌≡◌, ◌+◌, ◌≤◌, length};

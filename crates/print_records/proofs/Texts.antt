@@ -1,21 +1,20 @@
 -- A record's text from its bytes: the text of the record that they are, and at most 19 bytes; a line is at most 48. By
 -- cases on what the first byte stands for.
-use mathlib.Core.Path.{◌≡◌, refl, sym, ap, ◌∙◌}
-use mathlib.Core.Bool.{Bool, true, false}
-use mathlib.Core.List.{List, ◌++◌, append-nil}
+use mathlib.Core.Path.{◌≡◌, refl, sym, ap}
+use mathlib.Core.List.{List, [], ◌++◌}
 use mathlib.Core.Option.{some}
 use Prim.Native.Nat.{ℕ, ◌+◌, ◌*◌, ◌<◌, ◌≤◌}
 use native.Mathlib.Omega.{arith}
-use lib.Dec.{eqb}
 use lib.IntN.{ℤ, pos}
 use lib.ListN.{length, get_or, length-append}
-use borrow.Author.Tests.{ne_eqb}
-use Rattle.std.specs.Prelude.{if◌then◌else◌}
+use Rattle.std.specs.Prelude.{Option, Some, None}
 use Rattle.word.specs.Numbers.{number_at}
 use Rattle.record.specs.Records.{Record, LOADI, LOAD, STORE, JMP, JMPLESS, JMPGE}
 use Rattle.record.specs.Bytes.{Kind, operand, Operation, loadi, load, add, store, jmp, jmpless, jmpge, unknown}
 use Rattle.record.specs.Bytes.{operation, is_zero, record_of, record_at}
-use Rattle.record.proofs.Reading.{by_number}
+use Rattle.record.specs.Code.{operation_of}
+use Rattle.record.specs.declared.Operation as Code
+use Rattle.record.specs.declared.Operation.TheVariants.{Loadi, Load, Add, Store, Jmp, Jmpless, Jmpge}
 use Rattle.record.proofs.Decoding.{Named, as_named, as_add}
 use Rattle.print.specs.Ascii.{ascii}
 use Rattle.print.specs.Numbers.{signed}
@@ -25,47 +24,31 @@ use Rattle.print_records.specs.Lines.{operation_name, operation_operand, text_at
 
 -- ---- The operand
 
--- What one of two ways gives, if both do
-either : {A : Type 0} (f : Operation → A) {a : A} (t : Bool) {x y : Operation} → f x ≡ a → f y ≡ a
-    → f (if t then x else y) ≡ a
-either f true p q = p
-either f false p q = q
+-- Every operation but ADD has its operand printed.
+pub operand_shown : (o : Code.Operation) (z : ℤ) → (o ≡ Add → ⊥)
+    → operation_operand (operation_of (Some o)) z ≡ ascii " " ++ signed z
+unfolding operation_operand
+operand_shown Loadi z h = refl
+operand_shown Load z h = refl
+operand_shown Add z h = absurd (h refl)
+operand_shown Store z h = refl
+operand_shown Jmp z h = refl
+operand_shown Jmpless z h = refl
+operand_shown Jmpge z h = refl
 
--- Every byte but ADD's has its operand printed.
-operand_shown : (first byte : ℕ) (z : ℤ) → (byte ≡ first + 2 → ⊥)
-    → operation_operand (operation first byte) z ≡ ascii " " ++ signed z
-unfolding operation operation_operand
-operand_shown first byte z h =
-    let shows : Operation → List ℕ = λ o. operation_operand o z in
-    rw (ne_eqb byte (first + 2) h)
-    (either shows (eqb byte first) refl
-    (either shows (eqb byte (first + 1)) refl
-    (either shows (eqb byte (first + 3)) refl
-    (either shows (eqb byte (first + 4)) refl
-    (either shows (eqb byte (first + 5)) refl
-    (either shows (eqb byte (first + 6)) refl refl))))))
+-- Where there is no operation there is no name.
+pub nothing_named : (o : Option Code.Operation) → ((x : Code.Operation) → o ≡ Some x → ⊥)
+    → operation_name (operation_of o) ≡ []
+unfolding operation_name
+nothing_named None h = refl
+nothing_named (Some x) h = absurd (h x refl)
 
-module _ (first : ℕ) (code : List ℕ) (i : ℕ) where
-  -- The name of the record there
-  abbrev pub name_at : List ℕ
-  name_at = operation_name (operation first (get_or code (5 * i) 0))
-
-  -- The text of ADD is its name,
-  pub text_of_add : get_or code (5 * i) 0 ≡ first + 2 → text_at first code i ≡ name_at
-  unfolding text_at operation operation_operand
-  text_of_add e =
-      ap
-      (λ (o : Operation). name_at ++ operation_operand o (number_at code (5 * i + 1)))
-      (by_number first (get_or code (5 * i) 0) 2 e)
-      ∙ append-nil name_at
-
-  -- and every other is its name, a blank and its operand.
-  pub text_of_other : (z : ℤ) → (get_or code (5 * i) 0 ≡ first + 2 → ⊥) → z ≡ number_at code (5 * i + 1)
-      → text_at first code i ≡ name_at ++ (ascii " " ++ signed z)
-  unfolding text_at
-  text_of_other z h e =
-      ap (λ (l : List ℕ). name_at ++ l) (operand_shown first (get_or code (5 * i) 0) (number_at code (5 * i + 1)) h)
-      ∙ ap (λ (y : ℤ). name_at ++ (ascii " " ++ signed y)) (sym e)
+-- The text at an index is the operation's name and its operand.
+pub text_by : (first : ℕ) (code : List ℕ) (i : ℕ) (o : Option Code.Operation) (z : ℤ)
+    → operation_of o ≡ operation first (get_or code (5 * i) 0) → z ≡ number_at code (5 * i + 1)
+    → text_at first code i ≡ operation_name (operation_of o) ++ operation_operand (operation_of o) z
+unfolding text_at
+text_by first code i o z is e = rw (is, e) refl
 
 -- ---- Lengths
 

@@ -2,39 +2,60 @@
 // puts one thing, and asks for room for the longest such thing.
 #![tactic(auto)]
 
-ghost use Rattle.std.specs.Prelude.{◌≡◌, ℕ, ◌+◌, ◌*◌, ◌<◌, ◌≤◌, length};
+ghost use Rattle.std.specs.Prelude.{◌≡◌, ℕ, ◌+◌, ◌*◌, ◌<◌, ◌≤◌, ◌++◌, length, Some};
 ghost use Rattle.record.specs.Records.{AssemblyCode, MachineCode};
-ghost use Rattle.record.specs.Bytes.{operation};
+ghost use Rattle.record.specs.Code.{operation_of};
 ghost use Rattle.print_ascii.specs.Puts.{Prints};
+ghost use Rattle.print.specs.Ascii.{ascii};
+ghost use Rattle.print.specs.Numbers.{signed};
 ghost use Rattle.print.specs.Printing.{record_lines};
-ghost use Rattle.print_records.specs.Lines.{operation_name, text_at, line_at, Codes};
+ghost use Rattle.print_records.specs.Lines.{operation_name, operation_operand, text_at, line_at, Codes};
 
 use print_ascii::Page;
-use record::{LOADI, MLOADI};
+use record::{LOADI, MLOADI, Operation};
 
-// The name of a record by its number, LOADI's 0 to JMPGE's 6; none for another number.
-fn name(number: u8) -> &'static [u8]
-    ensures { result.now ≡ operation_name (operation 0 number) }
+// The name of an operation.
+fn name(operation: Operation) -> &'static [u8]
+    ensures { result.now ≡ operation_name (operation_of (Some operation)) }
 {
-    match number {
-        0 => b"LOADI",
-        1 => b"LOAD",
-        2 => b"ADD",
-        3 => b"STORE",
-        4 => b"JMP",
-        5 => b"JMPLESS",
-        6 => b"JMPGE",
-        _ => b"",
+    match operation {
+        Operation::Loadi => b"LOADI",
+        Operation::Load => b"LOAD",
+        Operation::Add => b"ADD",
+        Operation::Store => b"STORE",
+        Operation::Jmp => b"JMP",
+        Operation::Jmpless => b"JMPLESS",
+        Operation::Jmpge => b"JMPGE",
     }
 }
 
-// The name of a record by its byte, in code whose LOADI is `first`: at most 7 bytes.
-fn put_name(page: &mut Page, first: u8, byte: u8)
+// The name of what a record's first byte stands for, none if it stands for nothing: at most 7 bytes.
+fn put_name(page: &mut Page, operation: Option<Operation>)
     requires { page.old.at + 7 ≤ length page.old.out.now }
-    ensures { Prints (operation_name (operation first byte)) page.old page.new }
+    ensures { Prints (operation_name (operation_of operation)) page.old page.new }
 {
-    if first <= byte {
-        page.put_word(name(byte - first));
+    if let Some(named) = operation {
+        page.put_word(name(named));
+    }
+}
+
+// A blank and an operand: at most 1 + 11 bytes.
+fn put_number(page: &mut Page, operand: i32)
+    requires { page.old.at + 12 ≤ length page.old.out.now }
+    ensures { Prints (ascii " " ++ signed operand) page.old page.new }
+{
+    page.put_byte(b' ');
+    page.put_signed(operand);
+}
+
+// An operation's operand after a blank, and nothing for ADD.
+fn put_operand(page: &mut Page, operation: Operation, operand: i32)
+    requires { page.old.at + 12 ≤ length page.old.out.now }
+    ensures { Prints (operation_operand (operation_of (Some operation)) operand) page.old page.new }
+{
+    match operation {
+        Operation::Add => {}
+        _ => put_number(page, operand),
     }
 }
 
@@ -43,12 +64,12 @@ fn put_record(page: &mut Page, first: u8, code: &[u8], i: usize)
     requires { (page.old.at + 19 ≤ length page.old.out.now) × (first ≤ 80) × (5 * i + 5 ≤ length code.now) }
     ensures { Prints (text_at first code.now i) page.old page.new }
 {
-    let byte = record::byte_at(code, i);
-    let add = first + 2;
-    put_name(page, first, byte);
-    if byte != add {
-        page.put_byte(b' ');
-        page.put_signed(record::operand_at(code, i));
+    let operation = Operation::of(record::byte_at(code, i), first);
+    put_name(page, operation);
+    let operand = record::operand_at(code, i);
+    match operation {
+        Some(named) => put_operand(page, named, operand),
+        None => put_number(page, operand),
     }
 }
 

@@ -15,7 +15,7 @@ use source_values::{Tested, guard, right_side, test, tick};
 use text_ends::part_end;
 use text_shape::{ASSIGN, IF, SEQUENCE, SKIP};
 
-// A command comes to the position after it, where the run goes on, or to none, where the run is spent.
+// ---- Commands. One comes to the position after it, where the run goes on, or to none, where the run is spent.
 
 // The value that stood on the stack stored: one tick.
 fn stored(

@@ -1,5 +1,6 @@
 // The executor of expressions and conditions, as they stand in a text, by the source rules. The text and the store are
-// lent as arrays, the ticks left and the mark as numbers: a slice would be handed on through memory at each call.
+// lent as arrays, the ticks left and the mark as numbers: a slice would be handed on through memory at each call. (They
+// are no struct: ticks and mark change while text, store and ends stay, which each function would have to promise.)
 #![tactic(auto)]
 
 ghost use Rattle.std.specs.Prelude.{◌≡◌, ◌↔◌, Bool, false, IsSome, List, ℕ, suc, ◌+◌, ◌-◌, ◌≤◌, ◌<◌, max, eqb, ℤ};
