@@ -45,7 +45,7 @@ pub enum Reason {
     NotWhole = 9,
     // A record that is unknown, or has an operand that it can't have.
     NoRecord = 10,
-    // D or n above 64, or a memory of another length.
+    // D or n above 64, a memory of another length, or a stack of assembly above 64.
     WrongMemory = 11,
     // A table whose nonzero entries aren't 1 to n, once each.
     NoTable = 12,

@@ -154,17 +154,6 @@ module _ (code : List ℕ) (m : List ℤ) (D n : ℕ) where
 
 -- ---- From a state
 
--- a count is within what the budget leaves of the greatest exactly where the two together are
-pub room_is : (count budget : ℕ) → budget ≤ 4294967295
-    → leb (count + budget) 4294967295 ≡ leb count (4294967295 - budget)
-room_is count budget h = by (dec_lt 4294967295 (count + budget))
-  where
-    by : Dec (4294967295 < count + budget) → leb (count + budget) 4294967295 ≡ leb count (4294967295 - budget)
-    by (yes l) = lt-leb _ _ l ∙ sym (lt-leb count (4294967295 - budget) (omega (arith, l)))
-    by (no l) =
-        le-leb (count + budget) 4294967295 (omega (arith, l)) ∙ sym
-        (le-leb count (4294967295 - budget) (omega (arith, l)))
-
 -- A run from a state that passes
 abbrev pub Bounded : MachineCode → ℕ → State → List ℤ → Type 0
 Bounded P D s m = InBounds sums D (machine_cells D) P s.mark (machine_at s.position s.size m)
