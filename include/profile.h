@@ -14,7 +14,7 @@
  *     bits 32-39  n, how many variables the text names  (reading and compiling)
  *
  * A refusal's number is one of `enum profile_refusal_number`. `tools/staticlibs` makes the library, libpod.a; it links
- * into x86-64 programs.
+ * into x86-64 programs, and needs no other library, not C's either.
  */
 #ifndef PROFILE_H
 #define PROFILE_H

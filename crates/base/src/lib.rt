@@ -110,11 +110,14 @@ impl Preview {
     }
 }
 
-// Items written over the start of a buffer, or over all of it; what stands behind them stays.
+// Items written over the start of a buffer, or over all of it; what stands behind them stays. (One by one: by
+// `copy_from_slice` the pod's archive would need a C library's memmove.)
 pub fn copy_over<T: Copy>(items: &[T], out: &mut [T])
     requires { length items.now ≤ length out.old }
     ensures over { out.new ≡ items.now ++ drop (length items.now) out.old }
     ensures whole { length items.now ≡ length out.old → out.new ≡ items.now }
 {
-    out[..items.len()].copy_from_slice(items);
+    for i in 0..items.len() {
+        out[i] = items[i];
+    }
 }

@@ -13,7 +13,7 @@ ghost use Rattle.text_shape.specs.Shape.{constant_width};
 ghost use Rattle.text_conditions.specs.Code.{expression_parts};
 ghost use Rattle.compile_sizes.specs.Parts.{Countable, Counts, Sized};
 ghost use Rattle.compile_sizes.specs.Nots.{Behind};
-ghost use Rattle.compile_sizes.specs.Cache.{looked_up, size_noted, ConditionSizes};
+ghost use Rattle.compile_sizes.specs.Cache.{measured, looked_up, size_noted, ConditionSizes};
 
 use text_shape::{AND, BC, CONSTANT, NOT, ONE_BYTE_CONSTANT, VARIABLE, constant_width};
 
@@ -29,19 +29,34 @@ pub struct PartSize {
 // How many conditions a cache of sizes has room for.
 pub const SLOTS: usize = 64;
 
-// A condition that was measured: where it stands, and how many records it has under false. (Each in 16 bits: a cache is
-// cleared for every text.)
+// A condition that was measured: where it stands, and how many records it has under false.
 #[derive(Clone, Copy)]
 pub struct Measured {
-    pub at: u16,
-    pub records: u16,
+    pub at: usize,
+    pub records: usize,
 }
 
-// A cache of sizes: in each slot a condition that was measured, or nothing. (It does not hold the text that it speaks
-// of: a cache that did would need a clause everywhere that says that its text stays the same.)
+impl Measured {
+    // What a slot's number stands for: a position in its upper half and one more than the records in its lower, where 0
+    // is nothing.
+    fn from_slot(slot: u32) -> Option<Self>
+        ensures { result ≡ measured slot }
+    {
+        let records = (slot as usize % 0x10000).checked_sub(1)?;
+        Some(Measured {
+            at: slot as usize / 0x10000,
+            records,
+        })
+    }
+}
+
+// A cache of sizes: in each slot a condition that was measured, or nothing, as one number. (By an `Option` of two
+// numbers in each it takes half as much room again, which is cleared by a C library's memset, and a pod may have none.)
+// It does not hold the text that it speaks of: a cache that did would need a clause everywhere that says that its text
+// stays the same.
 #[derive(Clone, Copy)]
 pub struct SizeCache {
-    pub slots: [Option<Measured>; SLOTS],
+    pub slots: [u32; SLOTS],
 }
 
 impl SizeCache {
@@ -49,31 +64,23 @@ impl SizeCache {
     pub fn new() -> SizeCache
         ensures { (text : List ℕ) → ConditionSizes text result }
     {
-        SizeCache {
-            slots: [None; SLOTS],
-        }
+        SizeCache { slots: [0; SLOTS] }
     }
 
     // What it knows of a position.
     fn look_up(&self, at: usize) -> Option<usize>
         ensures { result ≡ looked_up self.now at }
     {
-        let slot = self.slots[at % SLOTS];
-        match slot {
-            Some(known) if usize::from(known.at) == at => Some(usize::from(known.records)),
-            _ => None,
-        }
+        let known = Measured::from_slot(self.slots[at % SLOTS])?;
+        (known.at == at).then_some(known.records)
     }
 
-    // Notes the size of a position in the position's slot, whatever stood there, if both have 16 bits.
+    // Notes the size of a position in the position's slot, whatever stood there, if there is room for both.
     fn note(&mut self, at: usize, records: usize)
         ensures { self.new ≡ size_noted self.old at records }
     {
-        if at < 0x10000 && records < 0x10000 {
-            self.slots[at % SLOTS] = Some(Measured {
-                at: at as u16,
-                records: records as u16,
-            });
+        if at < 0x10000 && records < 0xffff {
+            self.slots[at % SLOTS] = (at * 0x10000 + records + 1) as u32;
         }
     }
 }

@@ -1,16 +1,13 @@
--- What stands in the position's slot, if it is of that position.
-use Rattle.std.proofs.Common.{◌∙◌, sym, ap, Some}
-use Rattle.compile_sizes.proofs.Caching.{found, other, missing}
+-- What the position's slot stands for, if it is of that position.
+use Rattle.std.proofs.Common.{◌∙◌, sym}
+use Rattle.compile_sizes.proofs.Caching.{looks_up, looks_up_some}
 use Rattle.compile_sizes.proofs.SizeCache.look_up.Goals as goal
 
-pub returns-in-Some : goal.returns-in-Some
-returns-in-Some c =
-    let position = sym c.from.ensures ∙ c.if-from-at.true in
-    ap Some c.from-in-Some.ensures ∙ found c.args.self.now c.args.at c.in-Some.known c.in-Some.is position
+pub returns-in_err-known : goal.returns-in_err-known
+returns-in_err-known c =
+    c.from_residual.ensures ∙ looks_up c.args.self.now c.args.at (sym c.in_err-known.was ∙ c.from_slot.ensures)
 
-pub returns-in_default : goal.returns-in_default
-returns-in_default c =
-    other c.args.self.now c.args.at c.in-Some.known c.in-Some.is (λ e. c.if-from-at.false (c.from.ensures ∙ e))
-
-pub returns-in_default-2 : goal.returns-in_default-2
-returns-in_default-2 c = missing c.args.self.now c.args.at c.in_default.is
+pub returns : goal.returns
+returns c =
+    c.then_some.ensures
+    ∙ looks_up_some c.args.self.now c.args.at c.from_slot.ensures c.in_ok-known.known c.in_ok-known.was
