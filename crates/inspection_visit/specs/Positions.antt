@@ -9,6 +9,16 @@ use Rattle.record.specs.Records.{Record, MachineCode}
 use Rattle.record.specs.declared.Address.{Address}
 use Rattle.inspection.specs.Heights.{effect, successor, height_after, Reached, Heights, Passing}
 use Rattle.inspection_visit.specs.Records.{Given}
+use Rattle.inspection_visit.specs.declared.Positions.{Positions}
+
+-- ---- The lent arrays
+
+-- The two arrays are those that were lent, each as long as it was, whatever is answered
+pub record SameArrays (old new : Positions) : Type 0 where
+  pub labels : new.labels.ghost_name ≡ old.labels.ghost_name
+  pub labels_long : length new.labels.now ≡ length old.labels.now
+  pub order : new.order.ghost_name ≡ old.order.ghost_name
+  pub order_long : length new.order.now ≡ length old.order.now
 
 -- ---- A successor
 

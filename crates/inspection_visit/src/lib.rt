@@ -6,7 +6,7 @@ ghost use Rattle.std.specs.Bool.{then_some};
 ghost use Rattle.word.specs.Numbers.{number_at};
 ghost use Rattle.word.specs.Targets.{target};
 ghost use Rattle.inspection_visit.specs.Records.{Known, checked_at};
-ghost use Rattle.inspection_visit.specs.Positions.{Room, Within, Followed, Place, Visited};
+ghost use Rattle.inspection_visit.specs.Positions.{SameArrays, Room, Within, Followed, Place, Visited};
 
 // What each record takes off the stack, and what it then pushes, by its number, LOADI's 0 to JMPGE's 6. Those before
 // JMP lead on, those after it either way. Tables and no enum: `numbered_effect` has the same two, by the same number.
@@ -82,8 +82,9 @@ impl<'a> Positions<'a> {
     fn follow(&mut self, target: Option<usize>, label: u8) -> bool
         requires room { Room self.old.labels.now self.old.order.now self.old.found }
         requires within { Within (length self.old.labels.now) target }
-        ensures { Followed self.old.labels.now self.old.order.now self.old.found label target
+        ensures followed { Followed self.old.labels.now self.old.order.now self.old.found label target
             (then_some result self.new.found) self.new.labels.now self.new.order.now }
+        ensures same_arrays { SameArrays self.old self.new }
     {
         match target {
             None => false,
@@ -107,8 +108,9 @@ impl<'a> Positions<'a> {
     // False where no heights can be given.
     pub fn visit(&mut self, code: &[u8], last: usize, depth: usize, at: usize) -> bool
         requires { Place code.now last depth at self.old.labels.now self.old.order.now self.old.found }
-        ensures { Visited code.now last depth at self.old.labels.now self.old.order.now self.old.found
+        ensures visited { Visited code.now last depth at self.old.labels.now self.old.order.now self.old.found
             (then_some result self.new.found) self.new.labels.now self.new.order.now }
+        ensures same_arrays { SameArrays self.old self.new }
     {
         let label = usize::from(self.labels[at]);
         if at == last {

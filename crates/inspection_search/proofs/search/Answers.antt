@@ -14,8 +14,9 @@ returns c = all_looked c.loop-i.invariant c.loop-i-test.false
 pub returns-then-not-visit : goal.returns-then-not-visit
 returns-then-not-visit c =
     stops c.loop-i.invariant c.visit.new.self.labels.now c.visit.new.self.order.now
-    (rw c.if-not-visit.true at c.visit.ensures)
+    (rw c.if-not-visit.true at c.visit.ensures.visited)
 
 pub loop-i-preserved : goal.loop-i-preserved
 loop-i-preserved c =
-    goes_on c.loop-i.invariant c.loop-i-test.true (rw (c.from-at.ensures, c.if-not-visit.false) at c.visit.ensures)
+    goes_on c.loop-i.invariant c.loop-i-test.true
+    (rw (c.from-at.ensures, c.if-not-visit.false) at c.visit.ensures.visited)

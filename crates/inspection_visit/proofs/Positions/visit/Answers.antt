@@ -8,8 +8,8 @@ use Rattle.inspection_visit.proofs.Positions.visit.Goals as goal
 
 -- ---- The end
 
-pub returns-then-at-last : goal.returns-then-at-last
-returns-then-at-last c = end_told c.requires c.if-at-last.true c.from-label.ensures
+pub returns-then-at-last-clause-visited : goal.returns-then-at-last-clause-visited
+returns-then-at-last-clause-visited c = end_told c.requires c.if-at-last.true c.from-label.ensures
 
 -- ---- A record
 
@@ -19,8 +19,8 @@ check_record-requires c =
     known_there p (omega (arith, p.at_most, c.if-at-last.false)) _
     (omega (arith, c.from-label.ensures, p.stands.low c.args.at))
 
-pub returns-in_default : goal.returns-in_default
-returns-in_default c =
+pub returns-in_default-clause-visited : goal.returns-in_default-clause-visited
+returns-in_default-clause-visited c =
     breaks
     (checked_here c.requires c.if-at-last.false c.from-label.ensures c.check_record.ensures c.in_default.is)
 
@@ -43,11 +43,11 @@ follow-requires-clause-within c =
     jump_within
     (one_way c.requires c.if-at-last.false c.from-label.ensures c.check_record.ensures c.in-Some.is c.in-Leads.is)
 
-pub returns-in-Leads : goal.returns-in-Leads
-returns-in-Leads c =
+pub returns-in-Leads-clause-visited : goal.returns-in-Leads-clause-visited
+returns-in-Leads-clause-visited c =
     one_followed
     (one_way c.requires c.if-at-last.false c.from-label.ensures c.check_record.ensures c.in-Some.is c.in-Leads.is)
-    _ c.follow.ensures
+    _ c.follow.ensures.followed
 
 -- ---- Two ways
 
@@ -68,21 +68,21 @@ follow-requires-in-Forks-clause-within c =
     jump_within
     (two_ways c.requires c.if-at-last.false c.from-label.ensures c.check_record.ensures c.in-Some.is c.in-Forks.is)
 
-pub returns-else-follow : goal.returns-else-follow
-returns-else-follow c =
+pub returns-else-follow-clause-visited : goal.returns-else-follow-clause-visited
+returns-else-follow-clause-visited c =
     let w =
     two_ways c.requires c.if-at-last.false c.from-label.ensures c.check_record.ensures c.in-Some.is c.in-Forks.is in
-    rw c.if-follow.false (jump_clash w (rw c.if-follow.false at c.follow-in-Forks.ensures))
+    rw c.if-follow.false (jump_clash w (rw c.if-follow.false at c.follow-in-Forks.ensures.followed))
 
 pub follow-requires-then-follow : goal.follow-requires-then-follow
 follow-requires-then-follow c =
     let w =
     two_ways c.requires c.if-at-last.false c.from-label.ensures c.check_record.ensures c.in-Some.is c.in-Forks.is in
-    let found = rw c.if-follow.true at c.follow-in-Forks.ensures in
+    let found = rw c.if-follow.true at c.follow-in-Forks.ensures.followed in
     record { room = (jump_found w found).0.stands.room; within = pass_within w found }
 
-pub returns-then-follow : goal.returns-then-follow
-returns-then-follow c =
+pub returns-then-follow-clause-visited : goal.returns-then-follow-clause-visited
+returns-then-follow-clause-visited c =
     let w =
     two_ways c.requires c.if-at-last.false c.from-label.ensures c.check_record.ensures c.in-Some.is c.in-Forks.is in
-    both_followed w (rw c.if-follow.true at c.follow-in-Forks.ensures) _ c.follow-then-follow.ensures
+    both_followed w (rw c.if-follow.true at c.follow-in-Forks.ensures.followed) _ c.follow-then-follow.ensures.followed
