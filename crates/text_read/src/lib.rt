@@ -16,7 +16,13 @@ use text_conditions::PartReading;
 fn count_named(named: &[u8]) -> usize
     ensures { result ≡ how_many (noted named.now) (length named.now) }
 {
-    named.iter().filter(|note| **note == 1).count()
+    let mut n = 0;
+    for note in named {
+        if *note == 1 {
+            n += 1;
+        }
+    }
+    n
 }
 
 // Reads a text: its sizes, or its refusal.
